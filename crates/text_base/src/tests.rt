@@ -1,0 +1,27 @@
+use super::*;
+use std::test::Fail;
+
+#[test]
+fn text_keeps_its_bytes(rt: HostRuntime) -> Result<(), Fail> {
+    let text = Text::new(rt.alloc(), "Größe €")?;
+    assert_eq!(rt; text.as_str(), "Größe €");
+    Ok(())
+}
+
+#[test]
+fn scans_find_the_first_special_byte(rt: HostRuntime) {
+    assert_eq!(rt; first_json_special(b"plain \"", 0), 6);
+    assert_eq!(rt; first_json_special(b"a\x1fb\"", 0), 1);
+    assert_eq!(rt; first_json_special(b"a\\b", 2), 3);
+    assert_eq!(rt; first_name_special(b"title?", 0), 5);
+    assert_eq!(rt; first_name_special(b"a\x7f", 0), 1);
+    assert_eq!(rt; first_name_special(b"plain", 5), 5);
+}
+
+fn crosses_threads<T: Send + Sync>(_value: &T) {}
+
+#[test]
+fn text_crosses_threads(rt: HostRuntime) -> Result<(), Fail> {
+    crosses_threads(&Text::new(rt.alloc(), "text")?);
+    Ok(())
+}
