@@ -1,3 +1,12 @@
-pub mod Scan
-pub mod Number
+pub mod Arithmetic
 pub mod Causes
+pub mod Fields
+pub mod Grammar
+pub mod Number
+pub mod NumberText
+pub mod Reading
+pub mod Rounding
+pub mod Scan
+pub mod Spelled
+pub mod Spelling
+pub mod Value

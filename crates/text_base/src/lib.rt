@@ -3,17 +3,34 @@
 
 mod failed;
 mod folder_fault;
+mod num_arithmetic;
+mod num_fault;
+mod num_field;
+mod num_laws;
+mod num_printing;
+mod num_reading;
+mod num_rounding;
+mod num_spelling;
+mod num_value;
 mod number;
 mod out_of_memory;
 mod scan;
 mod text;
+mod text_field;
 
 pub use failed::Failed;
 pub use folder_fault::FolderFault;
+pub use num_arithmetic::{num_add, num_cmp, num_mul, num_sub};
+pub use num_fault::NumFault;
+pub use num_field::NumField;
+pub use num_laws::longest_number_at_front;
+pub use num_printing::num_text;
+pub use num_reading::read_num;
 pub use number::{Dec, Num};
 pub use out_of_memory::OutOfMemory;
 pub use scan::{first_json_special, first_name_special};
 pub use text::Text;
+pub use text_field::TextField;
 
 #[cfg(test)]
 mod tests;

@@ -36,3 +36,13 @@ impl Text {
         self.inner.as_str()
     }
 }
+
+impl From<String> for Text {
+    ghost use Rattle.std.specs.String.{string_bytes};
+
+    ghost from_gives = { λ s t. t ≡ string_bytes s };
+
+    fn from(inner: String) -> Self {
+        Text { inner }
+    }
+}

@@ -1,0 +1,11 @@
+pub mod DecimalLemmas
+pub mod DigitsLemmas
+pub mod GrammarLemmas
+pub mod FrontLemmas
+pub mod PartsLemmas
+pub mod PlacesLemmas
+pub mod ProductLemmas
+pub mod ReadBackLemmas
+pub mod RoundingLemmas
+pub mod SpellingLemmas
+pub mod TextLemmas
