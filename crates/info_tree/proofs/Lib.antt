@@ -1,0 +1,15 @@
+pub mod Again
+pub mod Completes
+pub mod Escapes
+pub mod Faults
+pub mod LevelLemmas
+pub mod Lexing
+pub mod MachineLemmas
+pub mod Numerals
+pub mod OneToken
+pub mod PairLemmas
+pub mod Quoted
+pub mod Splits
+pub mod StringLemmas
+pub mod Texts
+pub mod ReadingLemmas

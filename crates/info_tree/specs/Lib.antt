@@ -1,0 +1,12 @@
+pub mod Falls
+pub mod Json
+pub mod Levels
+pub mod Lexed
+pub mod Machine
+pub mod Pairs
+pub mod Plain
+pub mod Reading
+pub mod Strings
+pub mod Token
+pub mod Tree
+pub mod TreeCode
