@@ -1,0 +1,4 @@
+pub mod Fields
+pub mod Formats
+pub mod Item
+pub mod Items
