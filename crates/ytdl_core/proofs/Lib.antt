@@ -1,0 +1,10 @@
+pub mod Departures
+pub mod EntryLemmas
+pub mod FaultLemmas
+pub mod InfoLemmas
+pub mod LimitLemmas
+pub mod MemoryLemmas
+pub mod ReadingLemmas
+pub mod RunLemmas
+pub mod ScriptLemmas
+pub mod ToldLemmas

@@ -1,0 +1,51 @@
+-- What the objects in memory rest on: a plan of no calls, and bytes copied to the front of a buffer.
+use Rattle.std.proofs.Common.{◌≡◌, ℕ, ◌+◌, ◌≤◌, ◌-◌, ◌*◌, ◌<◌, List, [], ◌∷◌, ◌++◌, Bool, true, false, length, take, drop, min, sym, arith, refl, length-append, length-drop, length-take, All, rules}
+use Rattle.std.proofs.lemmas.List.{take-append-drop, drop-drop}
+use Rattle.std.proofs.Math.ListN.{drop_of_length-le}
+use Rattle.std.proofs.Math.Seq.{take-append_seam, take-length}
+use Rattle.std.proofs.lemmas.Map.Views.{All-set_contains}
+use Rattle.std.proofs.lemmas.Cmp.{nat_cmp_total}
+use Rattle.std.proofs.lemmas.List.Elements.{All-head}
+use Rattle.std.specs.Ordering.{nat_cmp}
+use Rattle.std.specs.BTreeSet.{BTreeSet, contains, IsFromIterResult}
+use Rattle.ytdl_core.specs.Plan.{is_empty}
+
+empty_where_none : (ks : List ℕ) (has : ℕ → Bool) → All (λ k. has k ≡ true) ks → ((q : ℕ) → has q ≡ false) →
+    is_empty ks ≡ true
+empty_where_none [] has all none = refl
+empty_where_none (k ∷ ks) has all none =
+    let is : has k ≡ true = search (rules, All-head) in
+    let is_not : has k ≡ false = none k in
+    cc
+
+-- a set of no numbers has no number
+pub none_planned : (set : BTreeSet ℕ) → IsFromIterResult nat_cmp [] set → is_empty set.keys ≡ true
+none_planned set made =
+    empty_where_none set.keys (contains nat_cmp set) (All-set_contains nat_cmp_total set) made.0
+
+read_front : (bytes rest : List ℕ) (at n : ℕ) → n ≤ length (drop at bytes) →
+    drop at bytes ≡ take n (take n (drop at bytes) ++ rest) ++ drop (at + n) bytes
+read_front bytes rest at n h =
+    let long : length (take n (drop at bytes)) ≡ n = simp length-take (omega arith) in
+    let front : take n (take n (drop at bytes) ++ rest) ≡ take n (drop at bytes) =
+    rw long at (take-append_seam (take n (drop at bytes)) rest) in
+    rw (front, ← drop-drop n at bytes) (sym (take-append-drop n (drop at bytes)))
+
+-- What a read puts to the front of a buffer, and what is left: nothing, where it put nothing into a buffer with room.
+pub read_step : (bytes buf copied : List ℕ) (at n : ℕ) → at ≤ length bytes →
+    n ≡ min (length (take (length bytes - at) (drop at bytes))) (length buf) →
+    copied ≡ take n (take (length bytes - at) (drop at bytes)) →
+    (drop at bytes ≡ take n (copied ++ drop n buf) ++ drop (at + n) bytes) ×
+    (n ≡ 0 → 0 < length (copied ++ drop n buf) → drop (at + n) bytes ≡ [])
+read_step bytes buf copied at n inside least is =
+    let whole : take (length bytes - at) (drop at bytes) ≡ drop at bytes =
+    rw (length-drop at bytes) at (take-length (drop at bytes)) in
+    let fits : n ≤ length (drop at bytes) = omega (arith, rw whole at least) in
+    let copy : copied ≡ take n (drop at bytes) = rw whole at is in (
+      rw copy (read_front bytes (drop n buf) at n fits),
+      λ none room.
+          let all : length (copied ++ drop n buf) ≡ length copied + (length buf - n) =
+          simp (length-append, length-drop) in
+          let taken : length copied ≡ min n (length (drop at bytes)) = rw copy (length-take n (drop at bytes)) in
+          drop_of_length-le bytes (omega (arith, length-drop at bytes, rw whole at least)),
+    )

@@ -1,0 +1,12 @@
+pub mod Chosen
+pub mod Entry
+pub mod Faults
+pub mod Lines
+pub mod Memory
+pub mod Outside
+pub mod Pieces
+pub mod Plan
+pub mod Reading
+pub mod Report
+pub mod Run
+pub mod Words

@@ -1,0 +1,139 @@
+ghost use Rattle.std.specs.Prelude.{◌≡◌, ◌↔◌, ◌≤◌, ℕ, false, Err, IfOk, IfErr};
+ghost use Rattle.ytdl_core.specs.declared.run_fault.OptionFault.TheVariants as option;
+ghost use Rattle.ytdl_core.specs.declared.run_fault.RunFault.TheVariants as fault;
+ghost use Rattle.ytdl_core.specs.declared.run_fault.Which.TheVariants as which;
+ghost use Rattle.std.specs.Option.{option_copied};
+ghost use Rattle.info_tree.specs.Plain.{plain};
+ghost use Rattle.ytdl_core.specs.Lines.{fault_line, TellsLine};
+ghost use Rattle.ytdl_core.specs.Words.{DepartsAt};
+ghost use Rattle.ytdl_core.specs.Run.{HasEntries, HaveEntries, IsExact, IsExactOf, IsFaultOfTree, IsRead, IsReported, IsTold, IsUntold, SinkFails, SourceFails};
+
+use crate::entry::{Entry, entries};
+use crate::fault_line::fault_line;
+use crate::lines::pieces;
+use crate::reading::read_file;
+use crate::report::{Report, report_of};
+use crate::run_fault::{OptionFault, RunFault};
+use crate::sink::Sink;
+use crate::source::InfoSource;
+use crate::words::read_command;
+use crate::writing::write;
+use info_item::read_items;
+use info_tree::{Tree, read_tree};
+use std::alloc::Global;
+use text_base::Text;
+
+/// Does what the words ask for: reads the information that they name, and prints each item's name.
+///
+/// A fault's own line that cannot be written leaves the fault the answer. Want of memory may come at any time.
+pub fn run<I: InfoSource, O: Sink, E: Sink>(
+    alloc: Global,
+    words: &Vec<Text>,
+    info: &mut I,
+    out: &mut O,
+    err: &mut E,
+) -> Result<Report, RunFault>
+    requires { I.is_open info.old ≡ false }
+
+    // Which word departs from what is built; then no object is touched but for the fault's line.
+    ensures words { (place : ℕ) →
+        (result ≡ Err (fault.Options place option.NotBuilt)) ↔ DepartsAt words.now.items place }
+
+    // An answer is that of the file's bytes: the ends of its items' entries, or its fault.
+    ensures report { IfOk result (IsReported words.now.items (I.file info.old)
+        (O.written out.old) (O.written out.new) (E.written err.old) (E.written err.new)) }
+    ensures exact { IsExact words.now.items (I.file info.old) result }
+
+    // What is printed where there is no report, and how far the source was read.
+    ensures told { IfErr result (IsTold words.now.items (I.file info.old)
+        (O.written out.old) (O.written out.new) (E.written err.old) (E.written err.new)
+        (E.faults err.old) (E.faults err.new) (E.refusals err.old) (E.refusals err.new)) }
+    ensures read { IsRead (I.file info.old) (I.left info.new) result }
+
+    // No object is blamed that did not fail in this call.
+    ensures source { SourceFails words.now.items (I.file info.old) (I.is_steady info.old)
+        (I.faults info.old) (I.faults info.new) result }
+    ensures out { SinkFails which.Out (O.is_steady out.old)
+        (O.faults out.old) (O.faults out.new) result }
+    ensures err { SinkFails which.Err (E.is_steady err.old)
+        (E.faults err.old) (E.faults err.new) result }
+{
+    let answer = answer(alloc, words, info, out, err);
+    if let Err(fault) = answer {
+        tell(fault, err);
+    }
+    answer
+}
+
+/// Writes the line of a fault, as far as that can be done.
+fn tell<E: Sink>(fault: RunFault, err: &mut E)
+    ensures line { TellsLine (fault_line fault) (E.written err.old) (E.written err.new)
+        (E.faults err.old) (E.faults err.new) (E.refusals err.old) (E.refusals err.new) }
+{
+    let line = fault_line(fault);
+    if !line.is_empty() {
+        let _ = err.put(line.as_bytes());
+    }
+}
+
+/// What the words ask for, without the line of a fault.
+fn answer<I: InfoSource, O: Sink, E: Sink>(
+    alloc: Global,
+    words: &[Text],
+    info: &mut I,
+    out: &mut O,
+    err: &mut E,
+) -> Result<Report, RunFault>
+    requires { I.is_open info.old ≡ false }
+    ensures words { (place : ℕ) →
+        (result ≡ Err (fault.Options place option.NotBuilt)) ↔ DepartsAt words.now place }
+    ensures report { IfOk result (IsReported words.now (I.file info.old)
+        (O.written out.old) (O.written out.new) (E.written err.old) (E.written err.new)) }
+    ensures exact { IsExact words.now (I.file info.old) result }
+    ensures untold { IfErr result (IsUntold words.now (I.file info.old)
+        (O.written out.old) (O.written out.new) (E.written err.old) (E.written err.new)) }
+    ensures read { IsRead (I.file info.old) (I.left info.new) result }
+    ensures source { SourceFails words.now (I.file info.old) (I.is_steady info.old)
+        (I.faults info.old) (I.faults info.new) result }
+    ensures out { SinkFails which.Out (O.is_steady out.old)
+        (O.faults out.old) (O.faults out.new) result }
+    ensures err { SinkFails which.Err (E.is_steady err.old)
+        (E.faults err.old) (E.faults err.new) result }
+    ensures later { E.refusals err.old ≤ E.refusals err.new }
+{
+    let command = match read_command(words) {
+        Ok(command) => command,
+        Err(word) => {
+            return Err(RunFault::Options {
+                word,
+                fault: OptionFault::NotBuilt,
+            });
+        }
+    };
+    let bytes = read_file(alloc, info, command.file)?;
+    let entries = read_entries(alloc, command.choice, &bytes)?;
+    let report = report_of(alloc, &entries)?;
+    let pieces = pieces(alloc, &entries)?;
+    write(&pieces, out, err)?;
+    Ok(report)
+}
+
+/// The entries of the items that an information file has, by its bytes.
+fn read_entries(alloc: Global, choice: Option<&str>, bytes: &[u8]) -> Result<Vec<Entry>, RunFault>
+    ensures entries { IfOk result (λ entries.
+        HaveEntries entries.items (option_copied choice.entry) bytes.now) }
+    ensures exact { IsExactOf bytes.now result }
+{
+    let tree = read_tree(alloc, bytes)?;
+    tree_entries(alloc, choice, &tree)
+}
+
+/// The entries of the items that a tree has.
+fn tree_entries(alloc: Global, choice: Option<&str>, tree: &Tree) -> Result<Vec<Entry>, RunFault>
+    ensures entries { IfOk result (λ entries.
+        HasEntries entries.items (option_copied choice.entry) (plain tree.now)) }
+    ensures fault { IfErr result (IsFaultOfTree (plain tree.now)) }
+{
+    let items = read_items(alloc, tree)?;
+    Ok(entries(alloc, choice, &items)?)
+}
