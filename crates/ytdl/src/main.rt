@@ -1,0 +1,42 @@
+//! Does what the words of the command line ask for, and ends with its status.
+#![tactic(auto)]
+
+mod info_file;
+mod output;
+#[cfg(test)]
+mod tests;
+
+use info_file::InfoFile;
+use output::Output;
+use std::alloc::Global;
+use std::env;
+use std::process::ExitCode;
+use text_base::Text;
+use ytdl_core::{run, status};
+
+/// The status of words that are not UTF-8.
+const BAD_WORDS: u8 = 2;
+
+/// The words of the command line behind the program's name, where they are UTF-8.
+fn words(rt: &HostRuntime, alloc: Global) -> Option<Vec<Text>> {
+    let mut words = Vec::new(alloc);
+    let mut args = env::args(rt).ok()?;
+    let _program = args.next();
+    for arg in args {
+        words.push(Text::from(arg)).ok()?;
+    }
+    Some(words)
+}
+
+fn main(rt: HostRuntime) -> ExitCode {
+    let alloc = rt.alloc();
+    let Some(words) = words(&rt, alloc) else {
+        let _ = eprintln!(rt; "ERROR: a word of the command line is not UTF-8");
+        return ExitCode::from(BAD_WORDS);
+    };
+    let mut info = InfoFile::new(&rt);
+    let mut out = Output::new(rt.stdout());
+    let mut err = Output::new(rt.stderr());
+    let end = run(alloc, &words, &mut info, &mut out, &mut err);
+    ExitCode::from(status(&end))
+}
