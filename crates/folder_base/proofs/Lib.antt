@@ -1,0 +1,11 @@
+pub mod Cutting
+pub mod Disjoint
+pub mod Gathered
+pub mod Images
+pub mod Lent
+pub mod Listed
+pub mod Moments
+pub mod Parted
+pub mod Pointwise
+pub mod Stepping
+pub mod Storing

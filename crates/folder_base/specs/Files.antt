@@ -1,0 +1,14 @@
+-- The files of a folder in memory as a disk's names.
+use Rattle.std.specs.Prelude.{option_map, String}
+use Rattle.std.specs.BTreeMap.{get_by_text, BTreeMap}
+use Rattle.std.specs.declared.alloc.Global.{Global}
+use Rattle.folder_base.specs.Disk.{Name, File, Names, put}
+use Rattle.folder_base.specs.Stored.{file_of}
+use Rattle.folder_base.specs.declared.stored.Stored.{Stored}
+
+abbrev pub names_of : BTreeMap (String Global) Stored → Names
+names_of files = λ name. option_map file_of (get_by_text files name)
+
+-- with the file of one name changed, where it stands
+abbrev pub changed_name : Name → (File → File) → Names → Names
+changed_name name change live = put live name (option_map change (live name))

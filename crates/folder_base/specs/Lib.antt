@@ -1,0 +1,13 @@
+pub mod Changes
+pub mod Disk
+pub mod Files
+pub mod Least
+pub mod Log
+pub mod Memory
+pub mod Names
+pub mod Parts
+pub mod Plan
+pub mod Stored
+pub mod Steps
+pub mod Story
+pub mod Took

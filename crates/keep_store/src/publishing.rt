@@ -1,0 +1,49 @@
+ghost use Rattle.std.specs.Prelude.{◌≡◌, IsTrue, OnOk, IfErr};
+ghost use Rattle.text_base.specs.Causes.{Rose};
+ghost use Rattle.folder_base.specs.Disk.{synced, renamed, settled};
+ghost use Rattle.folder_base.specs.Story.{Through, IsWhole, stands};
+ghost use Rattle.keep_store.specs.Publish.{store_fault, IsBeforeOrMoved, MayRefuse, Stays};
+
+use folder_base::{Folder, FolderCall, StoreFault};
+use text_base::FolderFault;
+
+/// The fault of a call of the folder.
+fn store_fault(call: FolderCall, fault: FolderFault) -> StoreFault
+    ensures { result ≡ store_fault call fault }
+{
+    match fault {
+        FolderFault::Failed => StoreFault::Folder { call },
+        FolderFault::OutOfMemory => StoreFault::OutOfMemory,
+    }
+}
+
+/// Gives a file another name, in place of a file that has it, with all its bytes and so that no crash
+/// undoes it. A crash in the middle leaves the new name as it was or with the whole file.
+pub fn publish<F: Folder>(folder: &mut F, from: &str, to: &str) -> Result<(), StoreFault>
+    requires { IsTrue (F.world folder.old).tells → IsWhole (F.world folder.old) }
+    ensures kept { Stays (F.world folder.old) (F.world folder.new) }
+    ensures refused { IfErr result (MayRefuse (F.world folder.old) (F.world folder.new)) }
+    ensures steady { IsTrue (F.world folder.old).steady → IsTrue (F.world folder.old).tells
+        → stands (F.world folder.old) from.now
+        → IfErr result (λ fault. fault ≡ StoreFault.OutOfMemory) }
+    ensures done { IsTrue (F.world folder.new).tells
+        → OnOk result
+        ((F.world folder.new).story.now ≡ settled
+        (renamed from.now to.now (synced from.now (F.world folder.old).story.now))) }
+    ensures any_moment { IsTrue (F.world folder.new).tells
+        → Through (F.world folder.old).story (F.world folder.new).story
+        (IsBeforeOrMoved from.now to.now (F.world folder.old).story.now) }
+{
+    match folder.sync(from) {
+        Ok(()) => {}
+        Err(fault) => return Err(store_fault(FolderCall::Sync, fault)),
+    }
+    match folder.rename(from, to) {
+        Ok(()) => {}
+        Err(fault) => return Err(store_fault(FolderCall::Rename, fault)),
+    }
+    match folder.settle() {
+        Ok(()) => Ok(()),
+        Err(fault) => Err(store_fault(FolderCall::Settle, fault)),
+    }
+}
