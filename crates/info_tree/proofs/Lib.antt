@@ -8,6 +8,8 @@ pub mod MachineLemmas
 pub mod Numerals
 pub mod OneToken
 pub mod PairLemmas
+pub mod Parts
+pub mod Printing
 pub mod Quoted
 pub mod Splits
 pub mod StringLemmas

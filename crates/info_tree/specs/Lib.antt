@@ -5,6 +5,7 @@ pub mod Lexed
 pub mod Machine
 pub mod Pairs
 pub mod Plain
+pub mod Printed
 pub mod Reading
 pub mod Strings
 pub mod Token

@@ -1,5 +1,5 @@
 -- Pairs of a key and a tree: the value under a key, and a pair put among them.
-use Rattle.std.specs.Prelude.{ℕ, List, [], ◌∷◌, Option, Some, None, if◌then◌else◌, slice_get}
+use Rattle.std.specs.Prelude.{◌≡◌, ℕ, List, [], ◌∷◌, Option, Some, None, if◌then◌else◌, slice_get}
 use Rattle.std.specs.Str.{bytes_eq}
 use Rattle.info_tree.specs.Tree.{Tree, null, truth, number, text, list, mapping, Pairs, no_pairs, a_pair, tree_list}
 
@@ -7,6 +7,11 @@ use Rattle.info_tree.specs.Tree.{Tree, null, truth, number, text, list, mapping,
 abbrev pub value_at : List (List ℕ × Tree) → List ℕ → Option Tree
 value_at [] key = None
 value_at (p ∷ ps) key = if bytes_eq key p.0 then Some p.1 else value_at ps key
+
+-- each key stands once
+abbrev pub HaveDistinctKeys : List (List ℕ × Tree) → Type 0
+HaveDistinctKeys [] = Unit {0}
+HaveDistinctKeys (p ∷ ps) = (value_at ps p.0 ≡ None) × HaveDistinctKeys ps
 
 -- a key that stands keeps its place and takes the new value; another key goes last
 abbrev pub put : List (List ℕ × Tree) → List ℕ → Tree → List (List ℕ × Tree)

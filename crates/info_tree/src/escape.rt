@@ -35,8 +35,8 @@ pub fn read_escape(text: &str) -> Option<(Escape, &str)>
 fn hex_unit(text: &str) -> Option<(u16, &str)>
     ensures some { IfSome result (λ p. IsHexUnit text.now p.0 p.1.now) }
     ensures text { IfSome result (λ p. IsUtf8 p.1.now) }
-    ensures none { IfNone result ((a b c d : ℕ) (rest : List ℕ) →
-        text.now ≡ a ∷ b ∷ c ∷ d ∷ rest → IsHexDigit a → IsHexDigit b → IsHexDigit c → IsHexDigit d → ⊥) }
+    ensures none { IfNone result ((a b c d : ℕ) (rest : List ℕ) → text.now ≡ a ∷ b ∷ c ∷ d ∷ rest →
+        IsHexDigit a → IsHexDigit b → IsHexDigit c → IsHexDigit d → ⊥) }
 {
     let (a, text) = hex_digit(text)?;
     let (b, text) = hex_digit(text)?;
@@ -47,10 +47,12 @@ fn hex_unit(text: &str) -> Option<(u16, &str)>
 
 /// The value of a hexadecimal digit, and what follows it.
 fn hex_digit(text: &str) -> Option<(u16, &str)>
-    ensures some { IfSome result (λ p. (b : ℕ) × (text.now ≡ b ∷ p.1.now) × IsHexDigit b × (digit_value b ≡ p.0)) }
+    ensures some { IfSome result (λ p. (b : ℕ) × (text.now ≡ b ∷ p.1.now)
+        × IsHexDigit b × (digit_value b ≡ p.0)) }
     ensures small { IfSome result (λ p. p.0 < 16) }
     ensures text { IfSome result (λ p. IsUtf8 p.1.now) }
-    ensures none { IfNone result ((b : ℕ) (rest : List ℕ) → text.now ≡ b ∷ rest → IsHexDigit b → ⊥) }
+    ensures none { IfNone result ((b : ℕ) (rest : List ℕ) →
+        text.now ≡ b ∷ rest → IsHexDigit b → ⊥) }
 {
     let (byte, rest) = split_ascii(text)?;
     let digit = (byte as char).to_digit(16)?;

@@ -2,17 +2,27 @@
 #![tactic(auto)]
 
 mod ascii;
+mod copy;
 mod decoded;
 mod escape;
+mod escaping;
+mod json;
 mod machine;
 mod reader;
+mod style;
 mod token;
 mod tree;
 mod tree_fault;
 
+pub use json::tree_json;
 pub use reader::read_tree;
+pub use style::Style;
 pub use tree::{Tree, TreeList, TreeMap};
 pub use tree_fault::TreeFault;
 
+#[cfg(test)]
+mod copy_tests;
+#[cfg(test)]
+mod json_tests;
 #[cfg(test)]
 mod tests;

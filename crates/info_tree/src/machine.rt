@@ -34,7 +34,9 @@ pub fn step(
     next: Next,
     token: Token,
 ) -> Result<Option<Next>, OutOfMemory>
-    ensures { IfOk result (λ o. Takes (machine.take_mark (plain_frames frames.old.items) (plain_next next) (plain_mark token)) frames.new.items o) }
+    ensures { IfOk result (λ o. Takes
+        (machine.take_mark (plain_frames frames.old.items) (plain_next next) (plain_mark token))
+        frames.new.items o) }
 {
     match next {
         Next::Value => Ok(begin_value(token)),
@@ -48,7 +50,8 @@ pub fn step(
 
 /// A value begins.
 fn begin_value(token: Token) -> Option<Next>
-    ensures { (fs : List machine.Frame) → MatchOption result (machine.begin_value fs (plain_mark token) ≡ None)
+    ensures { (fs : List machine.Frame) → MatchOption result
+        (machine.begin_value fs (plain_mark token) ≡ None)
         (λ n. machine.begin_value fs (plain_mark token) ≡ Some (fs, plain_next n)) }
 {
     match token {
@@ -68,7 +71,9 @@ fn item_or_close(
     frames: &mut Vec<Frame>,
     token: Token,
 ) -> Result<Option<Next>, OutOfMemory>
-    ensures { IfOk result (λ o. Takes (machine.item_or_close (plain_frames frames.old.items) (plain_mark token)) frames.new.items o) }
+    ensures { IfOk result (λ o. Takes
+        (machine.item_or_close (plain_frames frames.old.items) (plain_mark token))
+        frames.new.items o) }
 {
     match token {
         Token::EndList => Ok(Some(Next::Done(Tree::List(TreeList::new(alloc))))),
@@ -84,7 +89,8 @@ fn item_or_close(
 
 /// The first key of a map comes, or the map ends.
 fn key_or_close(alloc: Global, token: Token) -> Option<Next>
-    ensures { (fs : List machine.Frame) → MatchOption result (machine.key_or_close fs (plain_mark token) ≡ None)
+    ensures { (fs : List machine.Frame) → MatchOption result
+        (machine.key_or_close fs (plain_mark token) ≡ None)
         (λ n. machine.key_or_close fs (plain_mark token) ≡ Some (fs, plain_next n)) }
 {
     match token {
@@ -96,7 +102,8 @@ fn key_or_close(alloc: Global, token: Token) -> Option<Next>
 
 /// A key comes.
 fn a_key(map: TreeMap, token: Token) -> Option<Next>
-    ensures { (fs : List machine.Frame) → MatchOption result (machine.a_key fs map (plain_mark token) ≡ None)
+    ensures { (fs : List machine.Frame) → MatchOption result
+        (machine.a_key fs map (plain_mark token) ≡ None)
         (λ n. machine.a_key fs map (plain_mark token) ≡ Some (fs, plain_next n)) }
 {
     match token {
@@ -112,7 +119,9 @@ fn a_colon(
     key: String,
     token: Token,
 ) -> Result<Option<Next>, OutOfMemory>
-    ensures { IfOk result (λ o. Takes (machine.a_colon (plain_frames frames.old.items) map (string_bytes key) (plain_mark token)) frames.new.items o) }
+    ensures { IfOk result (λ o. Takes
+        (machine.a_colon (plain_frames frames.old.items) map (string_bytes key) (plain_mark token))
+        frames.new.items o) }
 {
     match token {
         Token::Colon => {
@@ -129,7 +138,9 @@ fn after_item(
     list: TreeList,
     token: Token,
 ) -> Result<Option<Next>, OutOfMemory>
-    ensures { IfOk result (λ o. Takes (machine.after_item (plain_frames frames.old.items) list (plain_mark token)) frames.new.items o) }
+    ensures { IfOk result (λ o. Takes
+        (machine.after_item (plain_frames frames.old.items) list (plain_mark token))
+        frames.new.items o) }
 {
     match token {
         Token::EndList => Ok(Some(Next::Done(Tree::List(list)))),
@@ -147,7 +158,9 @@ fn after_member(
     map: TreeMap,
     token: Token,
 ) -> Result<Option<Next>, OutOfMemory>
-    ensures { IfOk result (λ o. Takes (machine.after_member (plain_frames frames.old.items) map (plain_mark token)) frames.new.items o) }
+    ensures { IfOk result (λ o. Takes
+        (machine.after_member (plain_frames frames.old.items) map (plain_mark token))
+        frames.new.items o) }
 {
     match token {
         Token::EndMap => Ok(Some(Next::Done(Tree::Map(map)))),
@@ -162,7 +175,9 @@ fn after_value(
     tree: Tree,
     token: Token,
 ) -> Result<Option<Next>, OutOfMemory>
-    ensures { IfOk result (λ o. Takes (machine.after_value (plain_frames frames.old.items) (plain tree) (plain_mark token)) frames.new.items o) }
+    ensures { IfOk result (λ o. Takes
+        (machine.after_value (plain_frames frames.old.items) (plain tree) (plain_mark token))
+        frames.new.items o) }
 {
     match frames.pop() {
         None => Ok(None),

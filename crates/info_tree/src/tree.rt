@@ -4,7 +4,7 @@ ghost use Rattle.std.specs.List.{position};
 ghost use Rattle.std.specs.Str.{bytes_eq};
 ghost use Rattle.std.specs.String.{string_bytes};
 ghost use Rattle.info_tree.specs.Plain.{plain};
-ghost use Rattle.info_tree.specs.Pairs.{value_at, put, member, item};
+ghost use Rattle.info_tree.specs.Pairs.{value_at, put, member, item, HaveDistinctKeys};
 
 use indexmap::IndexSet;
 use std::alloc::{AllocError, Global};
@@ -124,6 +124,13 @@ impl TreeMap {
         ensures { result ≡ length self.now }
     {
         self.values.len()
+    }
+
+    /// No two pairs have the same key.
+    pub fn keys_differ(&self)
+        ensures { HaveDistinctKeys self.now }
+    {
+        let _ = self.keys.len();
     }
 
     pub fn get(&self, key: &str) -> Option<&Tree>
