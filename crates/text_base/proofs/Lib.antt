@@ -7,5 +7,6 @@ pub mod PlacesLemmas
 pub mod ProductLemmas
 pub mod ReadBackLemmas
 pub mod RoundingLemmas
+pub mod SizeLemmas
 pub mod SpellingLemmas
 pub mod TextLemmas

@@ -7,6 +7,7 @@ pub mod NumberText
 pub mod Reading
 pub mod Rounding
 pub mod Scan
+pub mod Size
 pub mod Spelled
 pub mod Spelling
 pub mod Value

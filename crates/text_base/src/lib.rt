@@ -15,12 +15,13 @@ mod num_value;
 mod number;
 mod out_of_memory;
 mod scan;
+mod size;
 mod text;
 mod text_field;
 
 pub use failed::Failed;
 pub use folder_fault::FolderFault;
-pub use num_arithmetic::{num_add, num_cmp, num_mul, num_sub};
+pub use num_arithmetic::{nano, num_add, num_cmp, num_mul, num_sub};
 pub use num_fault::NumFault;
 pub use num_field::NumField;
 pub use num_laws::longest_number_at_front;
@@ -29,6 +30,7 @@ pub use num_reading::read_num;
 pub use number::{Dec, Num};
 pub use out_of_memory::OutOfMemory;
 pub use scan::{first_json_special, first_name_special};
+pub use size::{size_of_bytes, size_value};
 pub use text::Text;
 pub use text_field::TextField;
 

@@ -16,7 +16,7 @@ const UNIT: i128 = 1_000_000_000;
 const TENTHS_DIVISOR: u128 = 100_000_000;
 
 /// A number's count of thousand-millionths.
-fn nano(num: Num) -> i128
+pub fn nano(num: Num) -> i128
     ensures value { result ≡ nano_of (number_of num) }
     ensures bound { unsigned_abs result < 10 ^ 28 }
 {

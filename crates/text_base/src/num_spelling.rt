@@ -20,7 +20,7 @@ pub struct Spelled<'a> {
     pub is_whole: bool,
 }
 
-fn digits_len(bytes: &[u8]) -> usize
+pub fn digits_len(bytes: &[u8]) -> usize
     ensures count { result ≡ digits_length bytes.now }
     ensures within { result ≤ length bytes.now }
 {

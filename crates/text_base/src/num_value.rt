@@ -15,7 +15,7 @@ use crate::number::{Dec, Num};
 const EXPONENT_END: u128 = 1000;
 
 /// What digits count behind a count, or PAST where that is less.
-fn count_on(mut count: u128, digits: &[u8]) -> u128
+pub fn count_on(mut count: u128, digits: &[u8]) -> u128
     requires digits { AreDigits digits.now }
     requires bound { count ≤ 10 ^ 28 }
     ensures { result ≡ min (counted_on count digits.now) (10 ^ 28) }
@@ -27,7 +27,7 @@ fn count_on(mut count: u128, digits: &[u8]) -> u128
 }
 
 /// A count with zeros appended, or PAST where that is less.
-fn append_zeros(count: u128, zeros: u32) -> u128
+pub fn append_zeros(count: u128, zeros: u32) -> u128
     requires { count ≤ 10 ^ 28 }
     ensures { result ≡ min (count * 10 ^ zeros) (10 ^ 28) }
 {

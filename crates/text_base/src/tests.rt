@@ -1,4 +1,5 @@
 mod numbers;
+mod sizes;
 
 use super::*;
 use std::test::Fail;
