@@ -185,7 +185,7 @@ none_ascii [] h = λ t rest b. none_begins t rest b
 none_ascii (x ∷ bs) h = λ t rest b. omega (arith, h (omega arith), first_byte t (x ∷ bs) rest b)
 
 -- ---- numbers
-value_from : (s : List ℕ) (n : Number) → number_value s ≡ Some n → value_of s ≡ n
+pub value_from : (s : List ℕ) (n : Number) → number_value s ≡ Some n → value_of s ≡ n
 unfolding number_value exact_value value_of
 value_from s n e = short (nat_le (length s) 64) e
   where

@@ -15,3 +15,8 @@ pub mod Splits
 pub mod StringLemmas
 pub mod Texts
 pub mod ReadingLemmas
+pub mod NumberEnds
+pub mod StringPieces
+pub mod TreeTokens
+pub mod TreeSplits
+pub mod PrintedLaw

@@ -7,6 +7,7 @@ pub mod Pairs
 pub mod Plain
 pub mod Printed
 pub mod Reading
+pub mod ReadsAgain
 pub mod Strings
 pub mod Token
 pub mod Tree

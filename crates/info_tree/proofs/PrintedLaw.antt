@@ -1,0 +1,38 @@
+-- The text that is printed for a tree is the text of that tree.
+use Rattle.std.proofs.Common.{◌≡◌, ℕ, ◌≤◌, List, [], ◌∷◌, ◌++◌, length, take, refl, sym, ap, subst, ◌∙◌, arith}
+use Rattle.std.specs.Prelude.{Some, slice_get}
+use Rattle.std.specs.Str.{IsUtf8}
+use Rattle.info_tree.specs.Tree.{Tree, Trees, no_trees, a_tree, Pairs, no_pairs, a_pair, trees_of, pairs_of}
+use Rattle.info_tree.specs.Token.{Splits}
+use Rattle.info_tree.specs.Printed.{printed, first_line}
+use Rattle.info_tree.specs.Reading.{most_levels}
+use Rattle.info_tree.specs.ReadsAgain.{ReadsAgain, IsSound, AreSound, HaveSound}
+use Rattle.info_tree.specs.declared.style.Style.{Style}
+use Rattle.info_tree.proofs.TreeTokens.{tokens, are_value, stays, accepted}
+use Rattle.info_tree.proofs.TreeSplits.{tree_splits, first_spaces}
+
+append-nil : {A : Type 0} (l : List A) → l ++ [] ≡ l
+append-nil [] = refl
+append-nil (x ∷ xs) = ap (λ k. x ∷ k) (append-nil xs)
+
+pub reads_again : (style : Style) (t : Tree) → IsSound t → IsUtf8 (printed style (first_line style.pretty) t) → ReadsAgain t (printed style (first_line style.pretty) t)
+reads_again style t is u = λ low few.
+    let bytes = printed style (first_line style.pretty) t in
+    let ts = tokens style.ascii t [] in
+    let split : Splits bytes ts [] =
+    subst (λ (l : List ℕ). Splits l ts []) (append-nil bytes) (tree_splits style (first_line style.pretty) t [] [] [] (first_spaces style.pretty) is tt refl) in
+    record {
+      short = few;
+      reads = record { utf8 = u; tokens = ts; split = split; value = are_value style.ascii t is };
+      shallow = stays most_levels 0 style.ascii t [] (omega (arith, low)) tt;
+      accepted = accepted style.ascii t [] is tt;
+    }
+
+-- ---- entries that are sound one after another
+AreSound-push : (ts : List Tree) (t : Tree) → AreSound (trees_of ts) → IsSound t → AreSound (trees_of (ts ++ t ∷ []))
+AreSound-push [] t a is = (is, tt)
+AreSound-push (u ∷ ts) t a is = (a.0, AreSound-push ts t a.1 is)
+
+HaveSound-push : (ps : List (List ℕ × Tree)) (p : List ℕ × Tree) → HaveSound (pairs_of ps) → IsUtf8 p.0 → IsSound p.1 → HaveSound (pairs_of (ps ++ p ∷ []))
+HaveSound-push [] p a u is = (u, is, tt)
+HaveSound-push (q ∷ ps) p a u is = (a.0, a.1, HaveSound-push ps p a.2 u is)
