@@ -1,6 +1,6 @@
 -- A number ends before a byte that stands in no number: what follows changes nothing.
 use Rattle.std.proofs.Common.{◌≡◌, ℕ, zero, suc, ◌+◌, ◌-◌, ◌<◌, ◌≤◌, List, [], ◌∷◌, ◌++◌, length, length-append, length-drop, drop, get_or, refl, sym, ap, subst, ◌∙◌, arith, Bool, true, false, cond, eqb, ◌⊎◌, inl, inr}
-use Rattle.std.specs.Prelude.{◌==◌, ◌||◌, not, slice_index, Option, Some, None, pos, negsuc}
+use Rattle.std.specs.Prelude.{◌==◌, ◌||◌, Option, Some, None, pos, negsuc}
 use Rattle.std.specs.Fmt.{signed_decimal}
 use Rattle.std.proofs.Math.Seq.{get_or-append_right}
 use Rattle.std.proofs.lemmas.List.{get_or_append_left, drop-append-le}

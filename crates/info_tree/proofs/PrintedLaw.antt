@@ -1,13 +1,14 @@
 -- The text that is printed for a tree is the text of that tree.
-use Rattle.std.proofs.Common.{◌≡◌, ℕ, ◌≤◌, List, [], ◌∷◌, ◌++◌, length, take, refl, sym, ap, subst, ◌∙◌, arith}
+use Rattle.std.proofs.Common.{◌≡◌, ℕ, ◌+◌, List, [], ◌∷◌, ◌++◌, take, refl, ap, subst, arith}
 use Rattle.std.specs.Prelude.{Some, slice_get}
 use Rattle.std.specs.Str.{IsUtf8}
-use Rattle.info_tree.specs.Tree.{Tree, Trees, no_trees, a_tree, Pairs, no_pairs, a_pair, trees_of, pairs_of}
+use Rattle.info_tree.specs.Tree.{Tree, trees_of, pairs_of}
 use Rattle.info_tree.specs.Token.{Splits}
 use Rattle.info_tree.specs.Printed.{printed, first_line}
 use Rattle.info_tree.specs.Reading.{most_levels}
 use Rattle.info_tree.specs.ReadsAgain.{ReadsAgain, IsSound, AreSound, HaveSound}
 use Rattle.info_tree.specs.declared.style.Style.{Style}
+use Rattle.info_tree.proofs.Parts.{next_item}
 use Rattle.info_tree.proofs.TreeTokens.{tokens, are_value, stays, accepted}
 use Rattle.info_tree.proofs.TreeSplits.{tree_splits, first_spaces}
 
@@ -28,7 +29,7 @@ reads_again style t is u = λ low few.
       accepted = accepted style.ascii t [] is tt;
     }
 
--- ---- entries that are sound one after another
+-- ---- entries that are sound, one after another
 AreSound-push : (ts : List Tree) (t : Tree) → AreSound (trees_of ts) → IsSound t → AreSound (trees_of (ts ++ t ∷ []))
 AreSound-push [] t a is = (is, tt)
 AreSound-push (u ∷ ts) t a is = (a.0, AreSound-push ts t a.1 is)
@@ -36,3 +37,10 @@ AreSound-push (u ∷ ts) t a is = (a.0, AreSound-push ts t a.1 is)
 HaveSound-push : (ps : List (List ℕ × Tree)) (p : List ℕ × Tree) → HaveSound (pairs_of ps) → IsUtf8 p.0 → IsSound p.1 → HaveSound (pairs_of (ps ++ p ∷ []))
 HaveSound-push [] p a u is = (u, is, tt)
 HaveSound-push (q ∷ ps) p a u is = (a.0, a.1, HaveSound-push ps p a.2 u is)
+
+pub item_sound : (ts : List Tree) (i : ℕ) (t : Tree) → AreSound (trees_of (take i ts)) → slice_get ts i ≡ Some t → IsSound t → AreSound (trees_of (take (i + 1) ts))
+item_sound ts i t a e is = subst (λ (l : List Tree). AreSound (trees_of l)) (next_item ts i t e) (AreSound-push (take i ts) t a is)
+
+pub pair_sound : (ps : List (List ℕ × Tree)) (i : ℕ) (p : List ℕ × Tree) → HaveSound (pairs_of (take i ps)) → slice_get ps i ≡ Some p → IsUtf8 p.0 → IsSound p.1 →
+    HaveSound (pairs_of (take (i + 1) ps))
+pair_sound ps i p a e u is = subst (λ (l : List (List ℕ × Tree)). HaveSound (pairs_of l)) (next_item ps i p e) (HaveSound-push (take i ps) p a u is)

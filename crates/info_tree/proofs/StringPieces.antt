@@ -1,8 +1,8 @@
 -- What is printed between quotes is cut into pieces, which spell the text again.
 use Rattle.std.proofs.Common.{◌≡◌, ℕ, ◌+◌, ◌-◌, ◌*◌, ◌/◌, ◌%◌, ◌<◌, ◌≤◌, List, [], ◌∷◌, ◌++◌, refl, sym, ap, subst, ◌∙◌, append_assoc, arith, Bool, true, false, cond, ◌⊎◌, inl, inr}
-use Rattle.std.specs.Prelude.{Option, Some, None, map, codes, encode_utf8, encode_utf8_all, unwrap_or, nat_lt, nat_le, ◌==◌, ◌||◌, ◌&&◌, if◌then◌else◌}
+use Rattle.std.specs.Prelude.{Some, None, map, codes, encode_utf8, encode_utf8_all, unwrap_or, nat_lt, nat_le, ◌==◌, ◌||◌, ◌&&◌, if◌then◌else◌}
 use Rattle.std.specs.Char.{digit_value}
-use Rattle.std.specs.Char.Utf16.{is_high_surrogate, is_low_surrogate, surrogate_pair_char, lone_unit_char}
+use Rattle.std.specs.Char.Utf16.{is_high_surrogate, is_low_surrogate, surrogate_pair_char}
 use Rattle.std.specs.Str.{IsUtf8, chars}
 use Rattle.std.proofs.lemmas.Bool.{eqb-true, ltb-true, ltb-false, and_parts, or_from}
 use Rattle.std.proofs.lemmas.Bool.Decides.{nat_tests}

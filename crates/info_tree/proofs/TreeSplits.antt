@@ -1,14 +1,14 @@
 -- The text that is printed for a tree splits into the tree's tokens.
-use Rattle.std.proofs.Common.{◌≡◌, ℕ, ◌<◌, ◌≤◌, List, [], ◌∷◌, ◌++◌, length, get_or, refl, sym, ap, subst, ◌∙◌, append_assoc, arith, Bool, true, false}
-use Rattle.std.specs.Prelude.{Some, ◌==◌, codes}
+use Rattle.std.proofs.Common.{◌≡◌, ℕ, ◌<◌, ◌≤◌, List, [], ◌∷◌, ◌++◌, length, refl, sym, ap, subst, ◌∙◌, append_assoc, arith, Bool, true, false}
+use Rattle.std.specs.Prelude.{codes}
 use Rattle.std.specs.Str.{IsUtf8}
 use Rattle.std.proofs.lemmas.Bool.Decides.{nat_tests}
 use Rattle.text_base.specs.Number.{Number}
 use Rattle.text_base.specs.NumberText.{text_of}
 use Rattle.text_base.specs.Spelling.{number_length}
 use Rattle.info_tree.specs.Tree.{Tree, null, truth, number, text, list, mapping, Trees, no_trees, a_tree, Pairs, no_pairs, a_pair}
-use Rattle.info_tree.specs.Token.{Piece, Token, begin_list, end_list, begin_map, end_map, comma, colon, word, numeral, string, pieces_bytes, token_bytes, MayBegin, BeginsWith, is_space, after_space, Splits}
-use Rattle.info_tree.specs.Printed.{printed, items, members, quoted, deeper, first_line, comma_text, inside}
+use Rattle.info_tree.specs.Token.{Token, end_list, end_map, comma, colon, word, numeral, string, token_bytes, BeginsWith, is_space, after_space, Splits}
+use Rattle.info_tree.specs.Printed.{printed, items, members, quoted, deeper, first_line, comma_text}
 use Rattle.info_tree.specs.ReadsAgain.{IsSpelled, IsSound, AreSound, HaveSound}
 use Rattle.info_tree.specs.declared.style.Style.{Style}
 use Rattle.info_tree.proofs.Numerals.{number_head}

@@ -1,11 +1,11 @@
 -- The tokens that a tree is printed as: they are its value, they open no more levels than it has, and their numbers have values.
-use Rattle.std.proofs.Common.{◌≡◌, ℕ, ◌+◌, ◌-◌, ◌<◌, ◌≤◌, List, [], ◌∷◌, ◌++◌, length, take, refl, sym, ap, subst, ◌∙◌, append_assoc, arith, Bool, true, false}
-use Rattle.std.specs.Prelude.{Some, None, IsSome, max, slice_get}
+use Rattle.std.proofs.Common.{◌≡◌, ℕ, ◌+◌, ◌≤◌, List, [], ◌∷◌, ◌++◌, length, take, refl, sym, ap, subst, ◌∙◌, append_assoc, arith, Bool, true, false}
+use Rattle.std.specs.Prelude.{Some, slice_get}
 use Rattle.std.proofs.lemmas.List.{take_at}
 use Rattle.text_base.specs.NumberText.{text_of}
 use Rattle.info_tree.specs.Tree.{Tree, null, truth, number, text, list, mapping, Trees, no_trees, a_tree, Pairs, no_pairs, a_pair, trees_of, tree_list, pairs_of}
 use Rattle.info_tree.specs.Pairs.{put, pair_list, HaveDistinctKeys}
-use Rattle.info_tree.specs.Token.{Piece, Word, null_word, true_word, false_word, Token, begin_list, end_list, begin_map, end_map, comma, colon, word, numeral, string}
+use Rattle.info_tree.specs.Token.{Word, null_word, true_word, false_word, Token, begin_list, end_list, begin_map, end_map, comma, colon, word, numeral, string}
 use Rattle.info_tree.specs.Json.{put_all, IsValue, a_word, a_number, a_string, a_list, a_map, AreItems, no_items, items, AreMoreItems, no_more_items, more_items, AreMembers, no_members, members, AreMoreMembers, no_more_members, more_members}
 use Rattle.info_tree.specs.Levels.{level, StayWithin}
 use Rattle.info_tree.specs.Reading.{AreAccepted}

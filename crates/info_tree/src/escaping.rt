@@ -1,4 +1,5 @@
 ghost use Rattle.std.specs.Prelude.{◌≡◌, ◌<◌, ◌≤◌, ◌^◌, ◌++◌, ◌∷◌, [], true, false, OnOk};
+ghost use Rattle.std.specs.Str.{IsUtf8};
 ghost use Rattle.std.specs.String.{string_bytes};
 ghost use Rattle.info_tree.specs.Printed.{hex_digit, unit_escape, escaped, ascii_escaped, all_by, inside, quoted};
 
@@ -7,7 +8,9 @@ use text_base::OutOfMemory;
 
 /// Puts a text in quotes.
 pub fn push_quoted(out: &mut String, text: &str, ascii: bool) -> Result<(), OutOfMemory>
-    ensures { OnOk result (string_bytes out.new ≡ string_bytes out.old ++ quoted ascii text.now) }
+    ensures out { OnOk result (string_bytes out.new ≡ string_bytes out.old
+        ++ quoted ascii text.now) }
+    ensures text { IsUtf8 text.now }
 {
     out.push('"')?;
     push_inside(out, text, ascii)?;

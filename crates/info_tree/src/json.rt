@@ -3,6 +3,7 @@ ghost use Rattle.std.specs.String.{string_bytes};
 ghost use Rattle.info_tree.specs.Tree as form;
 ghost use Rattle.info_tree.specs.Plain.{plain};
 ghost use Rattle.info_tree.specs.Printed.{printed, deeper, first_line, comma_text, truth_text};
+ghost use Rattle.info_tree.specs.ReadsAgain.{ReadsAgain, IsSound};
 
 use crate::escaping::push_quoted;
 use crate::style::Style;
@@ -12,7 +13,9 @@ use text_base::{OutOfMemory, Text, num_text};
 
 /// The JSON text of a tree.
 pub fn tree_json(alloc: Global, tree: &Tree, style: Style) -> Result<Text, OutOfMemory>
-    ensures { IfOk result (λ t. t ≡ printed style (first_line style.pretty) (plain tree.now)) }
+    ensures text { IfOk result (λ t. t ≡ printed style (first_line style.pretty) (plain tree.now)) }
+    // `read_tree` of what is printed answers an equal tree, unless a limit of texts is passed.
+    ensures again { IfOk result (ReadsAgain (plain tree.now)) }
 {
     let mut out = String::new(alloc);
     let line = if style.pretty { "\n" } else { "" };
@@ -28,8 +31,9 @@ fn push_tree(
     style: Style,
     line: &str,
 ) -> Result<(), OutOfMemory>
-    ensures { OnOk result (string_bytes out.new ≡ string_bytes out.old
+    ensures out { OnOk result (string_bytes out.new ≡ string_bytes out.old
         ++ printed style line.now (plain tree.now)) }
+    ensures sound { OnOk result (IsSound (plain tree.now)) }
 {
     match tree {
         Tree::Null => {
@@ -55,8 +59,9 @@ fn push_list(
     style: Style,
     line: &str,
 ) -> Result<(), OutOfMemory>
-    ensures { OnOk result (string_bytes out.new ≡ string_bytes out.old
+    ensures out { OnOk result (string_bytes out.new ≡ string_bytes out.old
         ++ printed style line.now (form.list (form.trees_of list.now))) }
+    ensures sound { OnOk result (IsSound (form.list (form.trees_of list.now))) }
 {
     if list.len() == 0 {
         out.push_str("[]")?;
@@ -84,13 +89,15 @@ fn push_map(
     style: Style,
     line: &str,
 ) -> Result<(), OutOfMemory>
-    ensures { OnOk result (string_bytes out.new ≡ string_bytes out.old
+    ensures out { OnOk result (string_bytes out.new ≡ string_bytes out.old
         ++ printed style line.now (form.mapping (form.pairs_of map.now))) }
+    ensures sound { OnOk result (IsSound (form.mapping (form.pairs_of map.now))) }
 {
     if map.len() == 0 {
         out.push_str("{}")?;
         return Ok(());
     }
+    map.keys_differ();
     let inner = deeper_line(alloc, style.pretty, line)?;
     out.push('{')?;
     for place in 0..map.len() {
