@@ -18,5 +18,6 @@ pub mod ReadingLemmas
 pub mod NumberEnds
 pub mod StringPieces
 pub mod TreeTokens
+pub mod TreeLimits
 pub mod TreeSplits
 pub mod PrintedLaw

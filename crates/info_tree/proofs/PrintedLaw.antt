@@ -3,31 +3,55 @@ use Rattle.std.proofs.Common.{◌≡◌, ℕ, ◌+◌, List, [], ◌∷◌, ◌+
 use Rattle.std.specs.Prelude.{Some, slice_get}
 use Rattle.std.specs.Str.{IsUtf8}
 use Rattle.info_tree.specs.Tree.{Tree, trees_of, pairs_of}
-use Rattle.info_tree.specs.Token.{Splits}
+use Rattle.info_tree.specs.Token.{Token, Splits}
+use Rattle.info_tree.specs.Json.{Reads}
+use Rattle.info_tree.specs.Levels.{StayWithin}
 use Rattle.info_tree.specs.Printed.{printed, first_line}
-use Rattle.info_tree.specs.Reading.{most_levels}
-use Rattle.info_tree.specs.ReadsAgain.{ReadsAgain, IsSound, AreSound, HaveSound}
+use Rattle.info_tree.specs.Reading.{most_levels, IsTextOf}
+use Rattle.info_tree.specs.ReadsAgain.{IsWithinLimits, ReadsAgain, IsSound, AreSound, HaveSound}
 use Rattle.info_tree.specs.declared.style.Style.{Style}
 use Rattle.info_tree.proofs.Parts.{next_item}
-use Rattle.info_tree.proofs.TreeTokens.{tokens, are_value, stays, accepted}
+use Rattle.info_tree.proofs.TreeTokens.{tokens, are_value}
+use Rattle.info_tree.proofs.TreeLimits.{stays, opens, accepted}
+use Rattle.info_tree.proofs.Texts.{one_list}
 use Rattle.info_tree.proofs.TreeSplits.{tree_splits, first_spaces}
 
 append-nil : {A : Type 0} (l : List A) → l ++ [] ≡ l
 append-nil [] = refl
 append-nil (x ∷ xs) = ap (λ k. x ∷ k) (append-nil xs)
 
-pub reads_again : (style : Style) (t : Tree) → IsSound t → IsUtf8 (printed style (first_line style.pretty) t) → ReadsAgain t (printed style (first_line style.pretty) t)
-reads_again style t is u = λ low few.
-    let bytes = printed style (first_line style.pretty) t in
-    let ts = tokens style.ascii t [] in
-    let split : Splits bytes ts [] =
-    subst (λ (l : List ℕ). Splits l ts []) (append-nil bytes) (tree_splits style (first_line style.pretty) t [] [] [] (first_spaces style.pretty) is tt refl) in
-    record {
-      short = few;
-      reads = record { utf8 = u; tokens = ts; split = split; value = are_value style.ascii t is };
-      shallow = stays most_levels 0 style.ascii t [] (omega (arith, low)) tt;
-      accepted = accepted style.ascii t [] is tt;
-    }
+module _ (style : Style) (t : Tree) (sound : IsSound t) (utf8 : IsUtf8 (printed style (first_line style.pretty) t)) where
+  abbrev bytes : List ℕ
+  bytes = printed style (first_line style.pretty) t
+
+  pub is_json : Reads bytes t
+  is_json = record {
+    utf8 = utf8;
+    tokens = tokens style.ascii t [];
+    split =
+        subst (λ (l : List ℕ). Splits l (tokens style.ascii t []) []) (append-nil bytes)
+        (tree_splits style (first_line style.pretty) t [] [] [] (first_spaces style.pretty) sound tt refl);
+    value = are_value style.ascii t sound;
+  }
+
+  is_text : IsWithinLimits t bytes → IsTextOf bytes t
+  unfolding is_json
+  is_text within = record {
+    short = within.1;
+    reads = is_json;
+    shallow = stays most_levels 0 style.ascii t [] (omega (arith, within.0)) tt;
+    accepted = accepted style.ascii t [] sound tt;
+  }
+
+  within_limits : IsTextOf bytes t → IsWithinLimits t bytes
+  unfolding is_json
+  within_limits is =
+      let same : is.reads.tokens ≡ tokens style.ascii t [] = one_list bytes t t is.reads is_json in
+      let shallow : StayWithin most_levels 0 (tokens style.ascii t []) = subst (λ (ts : List Token). StayWithin most_levels 0 ts) same is.shallow in
+      (omega (arith, (opens most_levels 0 style.ascii t [] shallow).0), is.short)
+
+  pub reads_again : ReadsAgain t bytes
+  reads_again = (within_limits, is_text)
 
 -- ---- entries that are sound, one after another
 AreSound-push : (ts : List Tree) (t : Tree) → AreSound (trees_of ts) → IsSound t → AreSound (trees_of (ts ++ t ∷ []))

@@ -1,4 +1,4 @@
--- The tokens that a tree is printed as: they are its value, they open no more levels than it has, and their numbers have values.
+-- The tokens that a tree is printed as, and that the tree is their value.
 use Rattle.std.proofs.Common.{◌≡◌, ℕ, ◌+◌, ◌≤◌, List, [], ◌∷◌, ◌++◌, length, take, refl, sym, ap, subst, ◌∙◌, append_assoc, arith, Bool, true, false}
 use Rattle.std.specs.Prelude.{Some, slice_get}
 use Rattle.std.proofs.lemmas.List.{take_at}
@@ -160,64 +160,3 @@ mutual
       subst (λ (x : List ℕ). AreMoreMembers (more_member_tokens a (a_pair k t ps) []) ((x, t) ∷ pair_list ps)) (text_again a k s.0)
       (more_members (inside_pieces a k) (tokens a t []) (more_member_tokens a ps [])
       (ap (λ l. comma ∷ string (inside_pieces a k) ∷ colon ∷ l) (tokens-append a t (more_member_tokens a ps []))) (are_value a t s.1) (are_more_members a ps s.2))
-
--- ---- they open no more levels than the tree has
-closed : (limit n : ℕ) (t : Token) (more : List Token) → n ≤ limit → level (n + 1) t ≡ n → StayWithin limit n more → StayWithin limit (n + 1) (t ∷ more)
-closed limit n t more l e s = (omega (arith, e, l), subst (λ (m : ℕ). StayWithin limit m more) (sym e) s)
-
-mutual
-  pub stays : (limit n : ℕ) (a : Bool) (t : Tree) (more : List Token) → n + tree_levels t ≤ limit → StayWithin limit n more → StayWithin limit n (tokens a t more)
-  stays limit n a null more l s = (omega (arith, l), s)
-  stays limit n a (truth b) more l s = (omega (arith, l), s)
-  stays limit n a (number m) more l s = (omega (arith, l), s)
-  stays limit n a (text t) more l s = (omega (arith, l), s)
-  stays limit n a (list ts) more l s =
-      (omega (arith, l), items_stay limit (n + 1) a ts (end_list ∷ more) (omega (arith, l)) (closed limit n end_list more (omega (arith, l)) (omega arith) s))
-  stays limit n a (mapping ps) more l s =
-      (omega (arith, l), members_stay limit (n + 1) a ps (end_map ∷ more) (omega (arith, l)) (closed limit n end_map more (omega (arith, l)) (omega arith) s))
-
-  items_stay : (limit n : ℕ) (a : Bool) (ts : Trees) (more : List Token) → n + trees_levels ts ≤ limit → StayWithin limit n more → StayWithin limit n (item_tokens a ts more)
-  items_stay limit n a no_trees more l s = s
-  items_stay limit n a (a_tree t ts) more l s =
-      stays limit n a t (more_item_tokens a ts more) (omega (arith, l)) (more_items_stay limit n a ts more (omega (arith, l)) s)
-
-  more_items_stay : (limit n : ℕ) (a : Bool) (ts : Trees) (more : List Token) → n + trees_levels ts ≤ limit → StayWithin limit n more → StayWithin limit n (more_item_tokens a ts more)
-  more_items_stay limit n a no_trees more l s = s
-  more_items_stay limit n a (a_tree t ts) more l s =
-      (omega (arith, l), stays limit n a t (more_item_tokens a ts more) (omega (arith, l)) (more_items_stay limit n a ts more (omega (arith, l)) s))
-
-  members_stay : (limit n : ℕ) (a : Bool) (ps : Pairs) (more : List Token) → n + pairs_levels ps ≤ limit → StayWithin limit n more → StayWithin limit n (member_tokens a ps more)
-  members_stay limit n a no_pairs more l s = s
-  members_stay limit n a (a_pair k t ps) more l s =
-      (omega (arith, l), (omega (arith, l), stays limit n a t (more_member_tokens a ps more) (omega (arith, l)) (more_members_stay limit n a ps more (omega (arith, l)) s)))
-
-  more_members_stay : (limit n : ℕ) (a : Bool) (ps : Pairs) (more : List Token) → n + pairs_levels ps ≤ limit → StayWithin limit n more → StayWithin limit n (more_member_tokens a ps more)
-  more_members_stay limit n a no_pairs more l s = s
-  more_members_stay limit n a (a_pair k t ps) more l s =
-      (omega (arith, l), (omega (arith, l), (omega (arith, l), stays limit n a t (more_member_tokens a ps more) (omega (arith, l)) (more_members_stay limit n a ps more (omega (arith, l)) s))))
-
--- ---- their numbers have values
-mutual
-  pub accepted : (a : Bool) (t : Tree) (more : List Token) → IsSound t → AreAccepted more → AreAccepted (tokens a t more)
-  accepted a null more s h = (tt, h)
-  accepted a (truth b) more s h = (tt, h)
-  accepted a (number n) more s h = (rw s.1 refl, h)
-  accepted a (text t) more s h = (tt, h)
-  accepted a (list ts) more s h = (tt, items_accepted a ts (end_list ∷ more) s (tt, h))
-  accepted a (mapping ps) more s h = (tt, members_accepted a ps (end_map ∷ more) s.1 (tt, h))
-
-  items_accepted : (a : Bool) (ts : Trees) (more : List Token) → AreSound ts → AreAccepted more → AreAccepted (item_tokens a ts more)
-  items_accepted a no_trees more s h = h
-  items_accepted a (a_tree t ts) more s h = accepted a t (more_item_tokens a ts more) s.0 (more_items_accepted a ts more s.1 h)
-
-  more_items_accepted : (a : Bool) (ts : Trees) (more : List Token) → AreSound ts → AreAccepted more → AreAccepted (more_item_tokens a ts more)
-  more_items_accepted a no_trees more s h = h
-  more_items_accepted a (a_tree t ts) more s h = (tt, accepted a t (more_item_tokens a ts more) s.0 (more_items_accepted a ts more s.1 h))
-
-  members_accepted : (a : Bool) (ps : Pairs) (more : List Token) → HaveSound ps → AreAccepted more → AreAccepted (member_tokens a ps more)
-  members_accepted a no_pairs more s h = h
-  members_accepted a (a_pair k t ps) more s h = (tt, (tt, accepted a t (more_member_tokens a ps more) s.1 (more_members_accepted a ps more s.2 h)))
-
-  more_members_accepted : (a : Bool) (ps : Pairs) (more : List Token) → HaveSound ps → AreAccepted more → AreAccepted (more_member_tokens a ps more)
-  more_members_accepted a no_pairs more s h = h
-  more_members_accepted a (a_pair k t ps) more s h = (tt, (tt, (tt, accepted a t (more_member_tokens a ps more) s.1 (more_members_accepted a ps more s.2 h))))

@@ -1,5 +1,5 @@
 -- What is printed reads again: the text that is printed for a tree is, by the rules by which texts are read, that tree's.
-use Rattle.std.specs.Prelude.{◌≡◌, ℕ, ◌+◌, ◌≤◌, List, length, max, Some}
+use Rattle.std.specs.Prelude.{◌≡◌, ℕ, ◌+◌, ◌≤◌, ◌↔◌, List, length, max, Some}
 use Rattle.std.specs.Str.{IsUtf8}
 use Rattle.text_base.specs.Number.{Number}
 use Rattle.text_base.specs.NumberText.{text_of}
@@ -27,9 +27,13 @@ abbrev mutual
   pairs_levels no_pairs = 0
   pairs_levels (a_pair k t ps) = max (tree_levels t) (pairs_levels ps)
 
--- Where neither the levels of the tree nor the bytes are too many, the bytes are the text of this very tree.
+-- a tree of no more levels, in no more bytes, than a text may have
+abbrev pub IsWithinLimits : Tree → List ℕ → Type 0
+IsWithinLimits tree bytes = (tree_levels tree ≤ most_levels) × (length bytes ≤ most_bytes)
+
+-- The bytes are read as this very tree, exactly where they are within the limits.
 abbrev pub ReadsAgain : Tree → List ℕ → Type 0
-ReadsAgain tree bytes = tree_levels tree ≤ most_levels → length bytes ≤ most_bytes → IsTextOf bytes tree
+ReadsAgain tree bytes = (IsTextOf bytes tree) ↔ (IsWithinLimits tree bytes)
 
 -- a number whose text is one number and has it as its value
 abbrev pub IsSpelled : Number → Type 0

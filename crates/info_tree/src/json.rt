@@ -2,6 +2,7 @@ ghost use Rattle.std.specs.Prelude.{◌≡◌, ◌++◌, ◌==◌, if◌then◌e
 ghost use Rattle.std.specs.String.{string_bytes};
 ghost use Rattle.info_tree.specs.Tree as form;
 ghost use Rattle.info_tree.specs.Plain.{plain};
+ghost use Rattle.info_tree.specs.Json.{Reads};
 ghost use Rattle.info_tree.specs.Printed.{printed, deeper, first_line, comma_text, truth_text};
 ghost use Rattle.info_tree.specs.ReadsAgain.{ReadsAgain, IsSound};
 
@@ -14,8 +15,9 @@ use text_base::{OutOfMemory, Text, num_text};
 /// The JSON text of a tree.
 pub fn tree_json(alloc: Global, tree: &Tree, style: Style) -> Result<Text, OutOfMemory>
     ensures text { IfOk result (λ t. t ≡ printed style (first_line style.pretty) (plain tree.now)) }
-    // `read_tree` of what is printed answers an equal tree, unless a limit of texts is passed.
-    ensures again { IfOk result (ReadsAgain (plain tree.now)) }
+    // The text is a JSON text of this tree, and is read as it exactly within the limits of texts.
+    ensures json { IfOk result (λ t. Reads t (plain tree.now)) }
+    ensures reads_again { IfOk result (ReadsAgain (plain tree.now)) }
 {
     let mut out = String::new(alloc);
     let line = if style.pretty { "\n" } else { "" };
