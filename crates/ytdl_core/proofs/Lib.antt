@@ -7,4 +7,5 @@ pub mod MemoryLemmas
 pub mod ReadingLemmas
 pub mod RunLemmas
 pub mod ScriptLemmas
+pub mod StemLemmas
 pub mod ToldLemmas

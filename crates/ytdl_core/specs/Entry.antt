@@ -1,6 +1,6 @@
 -- What each item's entry is: the name of the one format that is chosen of it, where item and format are plain.
 use Rattle.std.specs.Prelude.{ℕ, ◌+◌, List, [], ◌∷◌, ◌++◌, length, map, Bool, true, false, ◌&&◌, ◌||◌, ◌==◌, not, nat_le, nat_eq, if◌then◌else◌, Option, Some, None, is_none, is_some, find, codes}
-use Rattle.std.specs.List.{list_all, list_any, starts_with}
+use Rattle.std.specs.List.{list_all, list_any}
 use Rattle.std.specs.Str.{bytes_eq}
 use Rattle.std.specs.Char.{is_ascii_alphanumeric}
 use Rattle.text_base.specs.Scan.{is_name_special}
@@ -9,6 +9,7 @@ use Rattle.info_item.specs.Item.{Item, Format}
 use Rattle.ytdl_core.specs.declared.entry.Entry.{Entry}
 use Rattle.ytdl_core.specs.declared.entry.Entry.TheVariants.{Shown, NoFormat, NotBuilt}
 use Rattle.info_item.specs.Fields.{text_at, ext_of, has_video_of, has_audio_of}
+use Rattle.ytdl_core.specs.Stems.{begin_one_another}
 
 -- every byte may stand in a file name
 abbrev pub fits_a_name : List ℕ → Bool
@@ -68,7 +69,7 @@ own_entry choice item = entry_of_choice item (chosen choice item.formats)
 
 -- whether an earlier entry bars a name with this stem: it was not built, or one of the two stems begins the other
 abbrev pub bars : List ℕ → Entry → Bool
-bars stem (Shown earlier extension) = starts_with nat_eq stem earlier || starts_with nat_eq earlier stem
+bars stem (Shown earlier extension) = begin_one_another stem earlier
 bars stem NoFormat = false
 bars stem NotBuilt = true
 
@@ -77,6 +78,24 @@ abbrev pub behind : List Entry → Entry → Entry
 behind earlier (Shown stem extension) = if list_any (bars stem) earlier then NotBuilt else Shown stem extension
 behind earlier NoFormat = NoFormat
 behind earlier NotBuilt = NotBuilt
+
+-- whether an entry is not built
+abbrev pub is_not_built : Entry → Bool
+is_not_built (Shown stem extension) = false
+is_not_built NoFormat = false
+is_not_built NotBuilt = true
+
+-- how many entries stand before the first that is not built behind those before it
+abbrev pub built_before : List Entry → List Entry → ℕ
+built_before earlier [] = 0
+built_before earlier (own ∷ rest) =
+    if is_not_built (behind earlier own) then 0 else built_before (earlier ++ own ∷ []) rest + 1
+
+-- an entry behind one that is not built
+abbrev pub shut : Entry → Entry
+shut (Shown stem extension) = NotBuilt
+shut NoFormat = NoFormat
+shut NotBuilt = NotBuilt
 
 -- each entry behind all before it
 abbrev pub all_behind : List Entry → List Entry → List Entry

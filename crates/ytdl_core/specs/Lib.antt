@@ -9,4 +9,5 @@ pub mod Plan
 pub mod Reading
 pub mod Report
 pub mod Run
+pub mod Stems
 pub mod Words

@@ -1,12 +1,13 @@
-ghost use Rattle.std.specs.Prelude.{◌≡◌, ◌++◌, IfOk, codes, map};
-ghost use Rattle.std.specs.List.{list_all, list_any};
+ghost use Rattle.std.specs.Prelude.{◌≡◌, ◌++◌, IfOk, codes, drop, map, take};
+ghost use Rattle.std.specs.List.{list_all};
 ghost use Rattle.std.specs.Option.{option_copied};
 ghost use Rattle.info_item.specs.Fields.{text_at};
 ghost use Rattle.info_tree.specs.Plain.{plain};
-ghost use Rattle.ytdl_core.specs.Entry.{fits_a_name, is_short_word, is_word_byte, is_plain_format, is_plain_stem, titled, own_entry, stem_of, behind, bars, entries_of, all_behind};
+ghost use Rattle.ytdl_core.specs.Entry.{fits_a_name, is_short_word, is_word_byte, is_plain_format, is_plain_stem, titled, own_entry, stem_of, shut, entries_of};
 ghost use Rattle.ytdl_core.specs.Chosen.{chosen_of};
 
 use crate::choice::{Choice, choose};
+use crate::stems::built_before;
 use info_item::{Format, Item};
 use info_tree::Tree;
 use std::alloc::Global;
@@ -29,49 +30,44 @@ pub fn entries(
 ) -> Result<Vec<Entry>, OutOfMemory>
     ensures { IfOk result (λ entries. entries.items ≡ entries_of (option_copied choice.entry) items.now) }
 {
+    let own = own_entries(alloc, choice, items)?;
+    let place = built_before(alloc, &own)?;
+    Ok(shut_from(alloc, own, place)?)
+}
+
+/// The entries of items, each by itself.
+fn own_entries(
+    alloc: Global,
+    choice: Option<&str>,
+    items: &[Item],
+) -> Result<Vec<Entry>, OutOfMemory>
+    ensures { IfOk result (λ entries. entries.items ≡ map (own_entry (option_copied choice.entry)) items.now) }
+{
     let mut entries = Vec::new(alloc);
     for item in items {
         let own = own_entry(alloc, choice, item)?;
-        let entry = behind(&entries, own);
-        entries.push(entry)?;
+        entries.push(own)?;
     }
     Ok(entries)
 }
 
-/// An entry behind earlier ones.
-fn behind(earlier: &[Entry], own: Entry) -> Entry
-    ensures { result ≡ behind earlier.now own }
+/// Entries of which none that stands at this place or behind it is shown.
+fn shut_from(alloc: Global, entries: Vec<Entry>, place: usize) -> Result<Vec<Entry>, OutOfMemory>
+    ensures { IfOk result (λ now. now.items ≡ take place entries.items ++ map shut (drop place entries.items)) }
 {
-    match own {
-        Entry::Shown { stem, extension } => {
-            if is_barred(earlier, stem.as_str()) {
-                Entry::NotBuilt
-            } else {
-                Entry::Shown { stem, extension }
-            }
-        }
-        Entry::NoFormat => Entry::NoFormat,
-        Entry::NotBuilt => Entry::NotBuilt,
+    let mut kept = Vec::new(alloc);
+    for (at, entry) in entries.into_iter().enumerate() {
+        kept.push(if at < place { entry } else { shut(entry) })?;
     }
+    Ok(kept)
 }
 
-fn is_barred(earlier: &[Entry], stem: &str) -> bool
-    ensures { result ≡ list_any (bars stem.now) earlier.now }
+fn shut(entry: Entry) -> Entry
+    ensures { result ≡ shut entry }
 {
-    earlier.iter().any(|entry| bars(stem, entry))
-}
-
-/// Whether an earlier entry bars a name with this stem.
-fn bars(stem: &str, earlier: &Entry) -> bool
-    ensures { result ≡ bars stem.now earlier.now }
-{
-    match earlier {
-        Entry::Shown { stem: other, .. } => {
-            let (stem, other) = (stem.as_bytes(), other.as_str().as_bytes());
-            stem.starts_with(other) || other.starts_with(stem)
-        }
-        Entry::NoFormat => false,
-        Entry::NotBuilt => true,
+    match entry {
+        Entry::Shown { .. } => Entry::NotBuilt,
+        entry => entry,
     }
 }
 

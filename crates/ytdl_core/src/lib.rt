@@ -14,6 +14,7 @@ mod run_fault;
 mod sink;
 mod sink_mem;
 mod source;
+mod stems;
 mod words;
 mod writing;
 
