@@ -2,6 +2,7 @@ pub mod Again
 pub mod Completes
 pub mod Escapes
 pub mod Faults
+pub mod KeyLemmas
 pub mod LevelLemmas
 pub mod Lexing
 pub mod MachineLemmas
@@ -9,6 +10,7 @@ pub mod Numerals
 pub mod OneToken
 pub mod PairLemmas
 pub mod Parts
+pub mod Places
 pub mod Printing
 pub mod Quoted
 pub mod Splits

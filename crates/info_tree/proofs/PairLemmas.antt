@@ -1,44 +1,21 @@
 -- A key is sought among the keys as among the pairs.
-use Rattle.std.proofs.Common.{◌≡◌, ℕ, zero, suc, ◌+◌, List, [], ◌∷◌, ◌++◌, length, refl, sym, ap, subst, ◌∙◌, arith, Bool, true, false, cond}
-use Rattle.std.specs.Prelude.{Option, Some, None, nat_lt, not, map, String, slice_get, slice_set}
+use Rattle.std.proofs.Common.{◌≡◌, ℕ, zero, suc, List, [], ◌∷◌, ◌++◌, length, refl, sym, ap, subst, ◌∙◌, arith, Bool, true, false, cond}
+use Rattle.std.specs.Prelude.{Option, Some, None, map, slice_get, slice_set}
 use Rattle.std.specs.Option.{option_map}
-use Rattle.std.specs.List.{zip, position, position_or_len, list_any}
-use Rattle.std.specs.String.{string_bytes}
+use Rattle.std.specs.List.{zip, position}
 use Rattle.std.specs.Str.{bytes_eq}
-use Rattle.std.specs.declared.alloc.Global.{Global}
-use Rattle.std.proofs.lemmas.Bool.Decides.{nat_tests}
 use Rattle.info_tree.specs.Tree.{Tree as Plain, trees_of, tree_list, pairs_of}
 use Rattle.info_tree.specs.Plain.{plain}
 use Rattle.info_tree.specs.Pairs.{value_at, put, pair_list}
 use Rattle.info_tree.specs.declared.tree.Tree.{Tree}
-
-abbrev next_place : Option ℕ → Option ℕ
-next_place None = None
-next_place (Some i) = Some (suc i)
-
-abbrev find_at : {X : Type 0} → (X → Bool) → List X → Option ℕ
-find_at p [] = None
-find_at p (x ∷ xs) = cond (p x) (Some 0) (next_place (find_at p xs))
-
-position_step : (b : Bool) (a n : ℕ) →
-    cond (nat_lt (cond (not b) (1 + a) 0) (suc n)) (Some (cond (not b) (1 + a) 0)) None ≡ cond b (Some 0) (next_place (cond (nat_lt a n) (Some a) None))
-position_step true a n = let h : nat_lt 0 (suc n) ≡ true = grind (arith, nat_tests) in rw h
-position_step false a n = step (nat_lt a n) refl
-  where
-    step : (c : Bool) → nat_lt a n ≡ c → cond (nat_lt (1 + a) (suc n)) (Some (1 + a)) None ≡ next_place (cond c (Some a) None)
-    step true e = let h : nat_lt (1 + a) (suc n) ≡ true = grind (arith, nat_tests) in let s : 1 + a ≡ suc a = omega arith in rw (h, s)
-    step false e = let h : nat_lt (1 + a) (suc n) ≡ false = grind (arith, nat_tests) in rw h
-
-position_is : {X : Type 0} (p : X → Bool) (xs : List X) → position p xs ≡ find_at p xs
-position_is p [] = refl
-position_is p (x ∷ xs) = position_step (p x) (position_or_len p xs) (length xs) ∙ ap (λ o. cond (p x) (Some 0) (next_place o)) (position_is p xs)
+use Rattle.info_tree.proofs.Places.{next_place, find_at, position_is}
 
 module _ (q : List ℕ) where
-  abbrev test : String Global → Bool
-  test k = bytes_eq q (string_bytes k)
+  abbrev test : List ℕ → Bool
+  test = bytes_eq q
 
-  abbrev view : List (String Global) → List Tree → List (List ℕ × Plain)
-  view ks vs = zip (map string_bytes ks) (map plain vs)
+  abbrev view : List (List ℕ) → List Tree → List (List ℕ × Plain)
+  view ks vs = zip ks (map plain vs)
 
   abbrev at : List Tree → Option ℕ → Option Plain
   at vs None = None
@@ -48,7 +25,7 @@ module _ (q : List ℕ) where
   at_next v vs None = refl
   at_next v vs (Some i) = refl
 
-  found : (ks : List (String Global)) (vs : List Tree) → length ks ≡ length vs → value_at (view ks vs) q ≡ at vs (find_at test ks)
+  found : (ks : List (List ℕ)) (vs : List Tree) → length ks ≡ length vs → value_at (view ks vs) q ≡ at vs (find_at test ks)
   found [] [] same = refl
   found [] (v ∷ vs) same = refl
   found (k ∷ ks) [] same = absurd (omega (arith, same))
@@ -60,14 +37,14 @@ module _ (q : List ℕ) where
       step true h = refl
       step false h = h ∙ at_next v vs (find_at test ks)
 
-  pub value_at_is : (ks : List (String Global)) (vs : List Tree) → length ks ≡ length vs → value_at (view ks vs) q ≡ at vs (position test ks)
+  pub value_at_is : (ks : List (List ℕ)) (vs : List Tree) → length ks ≡ length vs → value_at (view ks vs) q ≡ at vs (position test ks)
   value_at_is ks vs same = found ks vs same ∙ ap (at vs) (sym (position_is test ks))
 
-  abbrev puts : List (String Global) → List Tree → Plain → Tree → Option ℕ → Type 0
+  abbrev puts : List (List ℕ) → List Tree → Plain → Tree → Option ℕ → Type 0
   puts ks vs u t None = put (view ks vs) q u ≡ view ks vs ++ (q, u) ∷ []
   puts ks vs u t (Some i) = u ≡ plain t → view ks (slice_set vs i t) ≡ put (view ks vs) q u
 
-  put_found : (ks : List (String Global)) (vs : List Tree) (t : Tree) → length ks ≡ length vs → puts ks vs (plain t) t (find_at test ks)
+  put_found : (ks : List (List ℕ)) (vs : List Tree) (t : Tree) → length ks ≡ length vs → puts ks vs (plain t) t (find_at test ks)
   put_found [] [] t same = refl
   put_found [] (v ∷ vs) t same = refl
   put_found (k ∷ ks) [] t same = absurd (omega (arith, same))
@@ -76,15 +53,15 @@ module _ (q : List ℕ) where
     where
       step : (b : Bool) → test k ≡ b → (o : Option ℕ) → puts ks vs (plain t) t o → puts (k ∷ ks) (v ∷ vs) (plain t) t (cond b (Some 0) (next_place o))
       step true e o h = λ f. rw e refl
-      step false e None h = rw e (ap (λ l. (string_bytes k, plain v) ∷ l) h)
-      step false e (Some i) h = λ f. rw e (ap (λ l. (string_bytes k, plain v) ∷ l) (h f))
+      step false e None h = rw e (ap (λ l. (k, plain v) ∷ l) h)
+      step false e (Some i) h = λ f. rw e (ap (λ l. (k, plain v) ∷ l) (h f))
 
-  pub put_at : (ks : List (String Global)) (vs : List Tree) (t : Tree) (i : ℕ) → length ks ≡ length vs → position test ks ≡ Some i →
+  pub put_at : (ks : List (List ℕ)) (vs : List Tree) (t : Tree) (i : ℕ) → length ks ≡ length vs → position test ks ≡ Some i →
       view ks (slice_set vs i t) ≡ put (view ks vs) q (plain t)
   put_at ks vs t i same e =
       (subst (λ (o : Option ℕ). puts ks vs (plain t) t o) (sym (position_is test ks) ∙ e) (put_found ks vs t same)) refl
 
-  pub put_new : (ks : List (String Global)) (vs : List Tree) (t : Tree) → length ks ≡ length vs → position test ks ≡ None →
+  pub put_new : (ks : List (List ℕ)) (vs : List Tree) (t : Tree) → length ks ≡ length vs → position test ks ≡ None →
       put (view ks vs) q (plain t) ≡ view ks vs ++ (q, plain t) ∷ []
   put_new ks vs t same e = subst (λ (o : Option ℕ). puts ks vs (plain t) t o) (sym (position_is test ks) ∙ e) (put_found ks vs t same)
 
@@ -104,20 +81,19 @@ length-mapped : {A B : Type 0} (f : A → B) (xs : List A) → length (map f xs)
 length-mapped f [] = refl
 length-mapped f (x ∷ xs) = ap suc (length-mapped f xs)
 
-pub length-view : (ks : List (String Global)) (vs : List Tree) → length ks ≡ length vs → length vs ≡ length (zip (map string_bytes ks) (map plain vs))
+pub length-view : (ks : List (List ℕ)) (vs : List Tree) → length ks ≡ length vs → length vs ≡ length (zip ks (map plain vs))
 length-view ks vs same =
-    sym (length-zip (map string_bytes ks) (map plain vs) (length-mapped string_bytes ks ∙ same ∙ sym (length-mapped plain vs)) ∙ length-mapped plain vs)
+    sym (length-zip ks (map plain vs) (same ∙ sym (length-mapped plain vs)) ∙ length-mapped plain vs)
 
 map-push : {A B : Type 0} (f : A → B) (xs : List A) (x : A) → map f (xs ++ x ∷ []) ≡ map f xs ++ f x ∷ []
 map-push f [] x = refl
 map-push f (y ∷ ys) x = ap (λ l. f y ∷ l) (map-push f ys x)
 
 -- a new key and its value go last
-pub view-push : (ks : List (String Global)) (vs : List Tree) (k : String Global) (t : Tree) → length ks ≡ length vs →
-    zip (map string_bytes (ks ++ k ∷ [])) (map plain (vs ++ t ∷ [])) ≡ zip (map string_bytes ks) (map plain vs) ++ (string_bytes k, plain t) ∷ []
+pub view-push : (ks : List (List ℕ)) (vs : List Tree) (k : List ℕ) (t : Tree) → length ks ≡ length vs →
+    zip (ks ++ k ∷ []) (map plain (vs ++ t ∷ [])) ≡ zip ks (map plain vs) ++ (k, plain t) ∷ []
 view-push ks vs k t same =
-    rw (map-push string_bytes ks k, map-push plain vs t)
-    (zip_push (map string_bytes ks) (map plain vs) (string_bytes k) (plain t) (length-mapped string_bytes ks ∙ same ∙ sym (length-mapped plain vs)))
+    rw (map-push plain vs t) (zip_push ks (map plain vs) k (plain t) (same ∙ sym (length-mapped plain vs)))
 
 pub pair_list-pairs_of : (ps : List (List ℕ × Plain)) → pair_list (pairs_of ps) ≡ ps
 pair_list-pairs_of [] = refl
@@ -126,23 +102,6 @@ pair_list-pairs_of (p ∷ ps) = ap (λ l. p ∷ l) (pair_list-pairs_of ps)
 pub tree_list-trees_of : (ts : List Plain) → tree_list (trees_of ts) ≡ ts
 tree_list-trees_of [] = refl
 tree_list-trees_of (t ∷ ts) = ap (λ l. t ∷ l) (tree_list-trees_of ts)
-
-abbrev IsAbsent : {X : Type 0} → (X → Bool) → List X → Option ℕ → Type 0
-IsAbsent p xs None = list_any p xs ≡ false
-IsAbsent p xs (Some i) = Unit {0}
-
--- what has no place is not there
-absent : {X : Type 0} (p : X → Bool) (xs : List X) → IsAbsent p xs (find_at p xs)
-absent p [] = refl
-absent p (x ∷ xs) = step (p x) refl (find_at p xs) (absent p xs)
-  where
-    step : (b : Bool) → p x ≡ b → (o : Option ℕ) → IsAbsent p xs o → IsAbsent p (x ∷ xs) (cond b (Some 0) (next_place o))
-    step true e o h = tt
-    step false e None h = rw e h
-    step false e (Some i) h = tt
-
-pub not_any : {X : Type 0} (p : X → Bool) (xs : List X) → position p xs ≡ None → list_any p xs ≡ false
-not_any p xs e = subst (λ (o : Option ℕ). IsAbsent p xs o) (sym (position_is p xs) ∙ e) (absent p xs)
 
 abbrev pub paired : Option (List ℕ) → Option Plain → Option (List ℕ × Plain)
 paired None o = None
@@ -154,9 +113,9 @@ paired-none None = refl
 paired-none (Some k) = refl
 
 -- the pair at a place is the key there with the value there
-pub pair_at : (ks : List (String Global)) (vs : List Tree) (i : ℕ) →
-    slice_get (zip (map string_bytes ks) (map plain vs)) i ≡ paired (option_map string_bytes (slice_get ks i)) (option_map plain (slice_get vs i))
+pub pair_at : (ks : List (List ℕ)) (vs : List Tree) (i : ℕ) →
+    slice_get (zip ks (map plain vs)) i ≡ paired (slice_get ks i) (option_map plain (slice_get vs i))
 pair_at [] vs i = refl
-pair_at (k ∷ ks) [] i = paired-none (option_map string_bytes (slice_get (k ∷ ks) i))
+pair_at (k ∷ ks) [] i = paired-none (slice_get (k ∷ ks) i)
 pair_at (k ∷ ks) (v ∷ vs) zero = refl
 pair_at (k ∷ ks) (v ∷ vs) (suc i) = pair_at ks vs i

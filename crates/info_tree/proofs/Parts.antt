@@ -1,23 +1,12 @@
 -- The items of a list and the pairs of a map, one after another.
-use Rattle.std.proofs.Common.{◌≡◌, ℕ, zero, suc, ◌+◌, ◌<◌, ◌≤◌, List, [], ◌∷◌, ◌++◌, length, refl, sym, ap, subst, ◌∙◌, arith, take, Bool, true, false, cond, add-one}
-use Rattle.std.specs.Prelude.{Option, Some, None, map, String, slice_get}
+use Rattle.std.proofs.Common.{◌≡◌, ℕ, zero, suc, ◌+◌, ◌≤◌, List, [], ◌∷◌, ◌++◌, refl, sym, ap, subst, ◌∙◌, arith, take, Bool, true, false, cond, add-one}
+use Rattle.std.specs.Prelude.{Some, None, slice_get}
 use Rattle.std.specs.List.{zip, IsDistinct, AllByRecursion}
-use Rattle.std.specs.String.{string_bytes, string_eq}
 use Rattle.std.specs.Str.{bytes_eq}
-use Rattle.std.specs.declared.alloc.Global.{Global}
 use Rattle.std.proofs.lemmas.Cmp.{nat_list_eq_equiv}
 use Rattle.info_tree.specs.Tree.{Tree as Plain, trees_of, pairs_of, tree_size, trees_size, pairs_size}
 use Rattle.info_tree.specs.Pairs.{value_at, put, HaveDistinctKeys}
-
-some_is : {A : Type 0} {x y : A} → Some x ≡ Some y → x ≡ y
-some_is {x = x} e = ap (λ o. or_else x o) e
-  where
-    or_else : {A : Type 0} → A → Option A → A
-    or_else d None = d
-    or_else d (Some a) = a
-
-none_not_some : {A : Type 0} {x : A} → None ≡ Some x → ⊥
-none_not_some e = cc
+use Rattle.info_tree.proofs.Places.{some_is, none_not_some}
 
 -- an item is no larger than its list
 pub item_size : (ts : List Plain) (i : ℕ) (t : Plain) → slice_get ts i ≡ Some t → tree_size t ≤ trees_size (trees_of ts)
@@ -66,18 +55,18 @@ pub next_pair : (ps : List (List ℕ × Plain)) (i : ℕ) (p : List ℕ × Plain
     put (take i ps) p.0 p.1 ≡ take (i + 1) ps
 next_pair ps i p d e = rw add-one (pair_after ps i p d e)
 
-none_at : (k : List ℕ) (ks : List (String Global)) (vs : List Plain) → AllByRecursion (λ y. bytes_eq k (string_bytes y) ≡ false) ks →
-    value_at (zip (map string_bytes ks) vs) k ≡ None
+none_at : (k : List ℕ) (ks : List (List ℕ)) (vs : List Plain) → AllByRecursion (λ y. bytes_eq k y ≡ false) ks →
+    value_at (zip ks vs) k ≡ None
 none_at k [] vs h = refl
 none_at k (q ∷ ks) [] h = refl
-none_at k (q ∷ ks) (v ∷ vs) h = let other : bytes_eq k (string_bytes q) ≡ false = h.0 in rw other (none_at k ks vs h.1)
+none_at k (q ∷ ks) (v ∷ vs) h = let other : bytes_eq k q ≡ false = h.0 in rw other (none_at k ks vs h.1)
 
 -- the pairs of keys that differ
-pub distinct_pairs : (ks : List (String Global)) (vs : List Plain) → IsDistinct string_eq ks → HaveDistinctKeys (zip (map string_bytes ks) vs)
+pub distinct_pairs : (ks : List (List ℕ)) (vs : List Plain) → IsDistinct bytes_eq ks → HaveDistinctKeys (zip ks vs)
 unfolding IsDistinct
 distinct_pairs [] vs h = tt
 distinct_pairs (k ∷ ks) [] h = tt
-distinct_pairs (k ∷ ks) (v ∷ vs) h = (none_at (string_bytes k) ks vs h.0, distinct_pairs ks vs h.1)
+distinct_pairs (k ∷ ks) (v ∷ vs) h = (none_at k ks vs h.0, distinct_pairs ks vs h.1)
 
 -- where nothing stands at a place, all stands before it
 pub all_taken : {A : Type 0} (xs : List A) (i : ℕ) → slice_get xs i ≡ None → take i xs ≡ xs

@@ -1,9 +1,6 @@
 -- A list or a map is larger than each of its members.
-use Rattle.std.specs.Prelude.{◌≡◌, ◌≤◌, List, [], ◌∷◌, map, max, length}
+use Rattle.std.specs.Prelude.{◌≡◌, ◌≤◌, ℕ, List, [], ◌∷◌, map, max, length}
 use Rattle.std.specs.List.{zip}
-use Rattle.std.specs.Prelude.{String}
-use Rattle.std.specs.declared.alloc.Global.{Global}
-use Rattle.std.specs.String.{string_bytes}
 use Rattle.std.proofs.Common.{arith}
 use denote.Param.Weighed.{most}
 use Rattle.info_tree.specs.Tree.{trees_of, pairs_of, trees_size, pairs_size, tree_size}
@@ -24,8 +21,8 @@ most_le-size : (ts : List Tree) → most deep-Tree ts ≤ trees_size (trees_of (
 most_le-size [] = omega arith
 most_le-size (t ∷ ts) = omega (arith, deep_le-size t, most_le-size ts)
 
-most_le-pairs : (ks : List (String Global)) (ts : List Tree) → length ks ≡ length ts →
-    most deep-Tree ts ≤ pairs_size (pairs_of (zip (map string_bytes ks) (map plain ts)))
+most_le-pairs : (ks : List (List ℕ)) (ts : List Tree) → length ks ≡ length ts →
+    most deep-Tree ts ≤ pairs_size (pairs_of (zip ks (map plain ts)))
 most_le-pairs [] [] h = omega arith
 most_le-pairs [] (t ∷ ts) h = absurd (omega (arith, h))
 most_le-pairs (k ∷ ks) [] h = omega arith
@@ -36,6 +33,6 @@ most_le-pairs (k ∷ ks) (t ∷ ts) h =
 pub depth_le-trees_size : (ts : List Tree) → max (most deep-Tree ts) 0 ≤ trees_size (trees_of (map plain ts))
 depth_le-trees_size ts = omega (arith, most_le-size ts)
 
-pub depth_le-pairs_size : (ks : List (String Global)) (ts : List Tree) → length ks ≡ length ts →
-    max (most deep-Tree ts) 0 ≤ pairs_size (pairs_of (zip (map string_bytes ks) (map plain ts)))
+pub depth_le-pairs_size : (ks : List (List ℕ)) (ts : List Tree) → length ks ≡ length ts →
+    max (most deep-Tree ts) 0 ≤ pairs_size (pairs_of (zip ks (map plain ts)))
 depth_le-pairs_size ks ts h = omega (arith, most_le-pairs ks ts h)

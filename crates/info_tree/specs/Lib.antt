@@ -1,5 +1,6 @@
 pub mod Falls
 pub mod Json
+pub mod Keys
 pub mod Levels
 pub mod Lexed
 pub mod Machine

@@ -7,6 +7,7 @@ mod decoded;
 mod escape;
 mod escaping;
 mod json;
+mod keys;
 mod machine;
 mod reader;
 mod style;

@@ -1,12 +1,10 @@
-ghost use Rattle.std.specs.Prelude.{◌≡◌, ◌<◌, vec_len, slice_set, length, slice_get, None, IfOk, OnOk, OnErr, [], ◌∷◌, ◌++◌};
+ghost use Rattle.std.specs.Prelude.{◌≡◌, ◌<◌, vec_len, slice_set, length, slice_get, OnOk, [], ◌∷◌, ◌++◌};
 ghost use Rattle.std.specs.Option.{option_map};
-ghost use Rattle.std.specs.List.{position};
-ghost use Rattle.std.specs.Str.{bytes_eq};
 ghost use Rattle.std.specs.String.{string_bytes};
 ghost use Rattle.info_tree.specs.Plain.{plain};
 ghost use Rattle.info_tree.specs.Pairs.{value_at, put, member, item, HaveDistinctKeys};
 
-use indexmap::IndexSet;
+use crate::keys::Keys;
 use std::alloc::{AllocError, Global};
 use std::marker::Model;
 use text_base::{Num, OutOfMemory, Text};
@@ -53,14 +51,13 @@ impl Model for TreeList {
 #[cycle(tree)]
 #[derive(Drop)]
 pub struct TreeMap {
-    keys: IndexSet<String>,
+    keys: Keys,
     values: Vec<Tree>,
 }
 
 impl Model for TreeMap {
     ghost use Rattle.std.specs.Prelude.{◌≡◌, ℕ, List, map, length};
     ghost use Rattle.std.specs.List.{zip};
-    ghost use Rattle.std.specs.String.{string_bytes};
     ghost use Rattle.info_tree.specs.Tree.{Tree as Plain, pairs_of, pairs_size};
     ghost use Rattle.info_tree.specs.TreeCode.{coded_pairs};
 
@@ -70,15 +67,15 @@ impl Model for TreeMap {
 
     ghost use Rattle.info_tree.specs.Plain.{plain};
 
-    ghost view = { λ a. zip (map string_bytes a.keys.keys) (map plain a.values.items) };
+    ghost view = { λ a. zip a.keys (map plain a.values.items) };
 
-    ghost invariant = { λ a. length a.keys.keys ≡ length a.values.items };
+    ghost invariant = { λ a. length a.keys ≡ length a.values.items };
 
     ghost size = { λ ps. pairs_size (pairs_of ps) };
 
     ghost use Rattle.info_tree.specs.Falls.{depth_le-pairs_size};
 
-    ghost size_decreases = { λ a h. depth_le-pairs_size a.keys.keys a.values.items h };
+    ghost size_decreases = { λ a h. depth_le-pairs_size a.keys a.values.items h };
 }
 
 impl TreeList {
@@ -115,7 +112,7 @@ impl TreeMap {
         ensures { result ≡ [] }
     {
         TreeMap {
-            keys: IndexSet::new(alloc),
+            keys: Keys::new(alloc),
             values: Vec::new(alloc),
         }
     }
@@ -130,13 +127,13 @@ impl TreeMap {
     pub fn keys_differ(&self)
         ensures { HaveDistinctKeys self.now }
     {
-        let _ = self.keys.len();
+        self.keys.differ();
     }
 
     pub fn get(&self, key: &str) -> Option<&Tree>
         ensures { option_map (λ t. plain t.now) result ≡ value_at self.now key.now }
     {
-        let place = self.keys.get_index_of(key)?;
+        let place = self.keys.place_of(key)?;
         value(&self.values, place)
     }
 
@@ -144,23 +141,23 @@ impl TreeMap {
     pub fn pair(&self, place: usize) -> Option<(&str, &Tree)>
         ensures { option_map (λ p. (p.0.now, plain p.1.now)) result ≡ slice_get self.now place }
     {
-        let key = self.keys.get_index(place)?;
+        let key = self.keys.get(place)?;
         let tree = value(&self.values, place)?;
-        Some((key.as_str(), tree))
+        Some((key, tree))
     }
 
     /// Puts a tree under a key: a key that is there keeps its place.
     pub fn set(&mut self, key: String, tree: Tree) -> Result<(), OutOfMemory>
         ensures { OnOk result (self.new ≡ put self.old (string_bytes key) (plain tree)) }
     {
-        match self.keys.get_index_of(key.as_str()) {
+        match self.keys.place_of(key.as_str()) {
             Some(place) => {
                 replace(&mut self.values, place, tree);
                 Ok(())
             }
             None => {
                 self.values.push(tree)?;
-                if push_key(&mut self.keys, key).is_err() {
+                if self.keys.push(key).is_err() {
                     let _ = self.values.pop();
                     return Err(OutOfMemory);
                 }
@@ -174,15 +171,6 @@ fn value(values: &Vec<Tree>, place: usize) -> Option<&Tree>
     ensures { option_map (λ t. plain t.now) result ≡ option_map plain (slice_get values.now.items place) }
 {
     values.get(place)
-}
-
-fn push_key(keys: &mut IndexSet<String>, key: String) -> Result<(), OutOfMemory>
-    requires { position (λ k. bytes_eq (string_bytes key) (string_bytes k)) keys.old.keys ≡ None }
-    ensures ok { OnOk result (keys.new.keys ≡ keys.old.keys ++ key ∷ []) }
-    ensures err { OnErr result (keys.new.keys ≡ keys.old.keys) }
-{
-    keys.insert(key)?;
-    Ok(())
 }
 
 fn replace(values: &mut Vec<Tree>, place: usize, tree: Tree)

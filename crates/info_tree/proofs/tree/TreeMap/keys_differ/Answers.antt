@@ -4,4 +4,4 @@ use Rattle.info_tree.proofs.Parts.{distinct_pairs}
 use Rattle.info_tree.proofs.tree.TreeMap.keys_differ.Goals as goal
 
 pub returns : goal.returns
-returns c = rw (← c.self.view_is) (distinct_pairs c.self.inside.keys.keys (map plain c.self.inside.values.items) c.len.ensures.unique)
+returns c = rw (← c.self.view_is) (distinct_pairs c.self.inside.keys (map plain c.self.inside.values.items) c.differ.ensures)

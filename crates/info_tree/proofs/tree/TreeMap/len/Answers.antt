@@ -4,5 +4,5 @@ use Rattle.info_tree.proofs.tree.TreeMap.len.Goals as goal
 
 pub returns : goal.returns
 returns c =
-    let same = length-view c.self.inside.keys.keys c.self.inside.values.items c.self.invariant in
+    let same = length-view c.self.inside.keys c.self.inside.values.items c.self.invariant in
     rw (← c.self.view_is) (search (rules, same))

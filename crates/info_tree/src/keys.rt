@@ -1,0 +1,124 @@
+ghost use Rattle.std.specs.Prelude.{◌≡◌, length, map, slice_get, None, IfOk, OnOk, OnErr, [], ◌∷◌, ◌++◌};
+ghost use Rattle.std.specs.Option.{ForSome, option_map};
+ghost use Rattle.std.specs.List.{position, IsDistinct};
+ghost use Rattle.std.specs.Str.{bytes_eq};
+ghost use Rattle.std.specs.String.{string_bytes};
+ghost use Rattle.info_tree.specs.Keys.{TellsPlaces};
+
+use std::alloc::Global;
+use std::collections::BTreeMap;
+use std::marker::Model;
+use text_base::OutOfMemory;
+
+/// As many keys as are looked up one after another.
+const FEW: usize = 16;
+
+/// The keys of a map: texts of which no two are equal, in the order in which they came.
+#[derive(Drop)]
+pub struct Keys {
+    texts: Vec<String>,
+    /// The place of each, where there are more than a few.
+    places: Option<Box<BTreeMap<String, usize>>>,
+}
+
+impl Model for Keys {
+    ghost use Rattle.std.specs.Prelude.{ℕ, List, map};
+    ghost use Rattle.std.specs.Option.{ForSome};
+    ghost use Rattle.std.specs.List.{IsDistinct};
+    ghost use Rattle.std.specs.Str.{bytes_eq};
+    ghost use Rattle.std.specs.String.{string_bytes};
+    ghost use Rattle.info_tree.specs.Keys.{TellsPlaces};
+
+    ghost Value = { List (List ℕ) };
+
+    ghost view = { λ a. map string_bytes a.texts.items };
+
+    ghost invariant = { λ a. IsDistinct bytes_eq (map string_bytes a.texts.items)
+        × ForSome a.places (λ b. TellsPlaces b.value (map string_bytes a.texts.items)) };
+}
+
+impl Keys {
+    pub fn new(alloc: Global) -> Keys
+        ensures { result ≡ [] }
+    {
+        Keys {
+            texts: Vec::new(alloc),
+            places: None,
+        }
+    }
+
+    /// No two are equal.
+    pub fn differ(&self)
+        ensures { IsDistinct bytes_eq self.now }
+    {
+        let _ = self.texts.len();
+    }
+
+    pub fn get(&self, place: usize) -> Option<&str>
+        ensures { option_map (λ k. k.now) result ≡ slice_get self.now place }
+    {
+        let text = self.texts.get(place)?;
+        Some(text.as_str())
+    }
+
+    pub fn place_of(&self, text: &str) -> Option<usize>
+        ensures { result ≡ position (bytes_eq text.now) self.now }
+    {
+        match &self.places {
+            Some(places) => places.get(text).copied(),
+            None => place_among(&self.texts, text),
+        }
+    }
+
+    /// Puts a text last that is not there.
+    pub fn push(&mut self, text: String) -> Result<(), OutOfMemory>
+        requires { position (bytes_eq (string_bytes text)) self.old ≡ None }
+        ensures ok { OnOk result (self.new ≡ self.old ++ string_bytes text ∷ []) }
+        ensures err { OnErr result (self.new ≡ self.old) }
+    {
+        let places = places_behind(self.places.take(), &self.texts, text.as_str())?;
+        self.texts.push(text)?;
+        self.places = places;
+        Ok(())
+    }
+}
+
+fn place_among(texts: &Vec<String>, text: &str) -> Option<usize>
+    ensures { result ≡ position (λ k. bytes_eq text.now (string_bytes k)) texts.now.items }
+{
+    texts.iter().position(|key| text == key.as_str())
+}
+
+/// The places once a text that is not there stands last, where there are more than a few.
+fn places_behind(
+    places: Option<Box<BTreeMap<String, usize>>>,
+    texts: &Vec<String>,
+    text: &str,
+) -> Result<Option<Box<BTreeMap<String, usize>>>, OutOfMemory>
+    requires places { ForSome places (λ b. TellsPlaces b.value (map string_bytes texts.now.items)) }
+    requires distinct { IsDistinct bytes_eq (map string_bytes texts.now.items) }
+    requires fresh { position (bytes_eq text.now) (map string_bytes texts.now.items) ≡ None }
+    ensures { IfOk result (λ o. ForSome o (λ b. TellsPlaces b.value (map string_bytes texts.now.items ++ text.now ∷ []))) }
+{
+    let alloc = *texts.allocator();
+    let mut places = match places {
+        Some(places) => places,
+        None if texts.len() < FEW => return Ok(None),
+        None => Box::new(alloc, places_of(texts)?)?,
+    };
+    places.insert(String::from_str(alloc, text)?, texts.len())?;
+    Ok(Some(places))
+}
+
+/// The place of each text.
+fn places_of(texts: &Vec<String>) -> Result<BTreeMap<String, usize>, OutOfMemory>
+    requires { IsDistinct bytes_eq (map string_bytes texts.now.items) }
+    ensures { IfOk result (λ m. TellsPlaces m (map string_bytes texts.now.items)) }
+{
+    let alloc = *texts.allocator();
+    let mut places = BTreeMap::new(alloc);
+    for (place, text) in texts.iter().enumerate() {
+        places.insert(text.clone()?, place)?;
+    }
+    Ok(places)
+}
