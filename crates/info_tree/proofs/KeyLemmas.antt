@@ -1,6 +1,6 @@
 -- What tells the places of keys, as keys come.
 use Rattle.std.proofs.Common.{◌≡◌, ℕ, zero, suc, ◌+◌, ◌<◌, List, [], ◌∷◌, ◌++◌, length, take, get_or, refl, sym, ap, subst, ◌∙◌, arith, Bool, true, false, cond}
-use Rattle.std.specs.Prelude.{Option, Some, None, String, map, slice_get}
+use Rattle.std.specs.Prelude.{Option, Some, None, String, is_some, map, slice_get}
 use Rattle.std.specs.List.{position, IsDistinct}
 use Rattle.std.specs.Str.{bytes_eq}
 use Rattle.std.specs.String.{string_bytes, string_cmp}
@@ -14,7 +14,7 @@ use Rattle.std.proofs.lemmas.Map.Keys.{IsDistinct-push}
 use Rattle.std.proofs.lemmas.Map.Text.{btree_map_updates_text}
 use Rattle.std.proofs.lemmas.Slice.Eq.{bytes_eq-Decides}
 use Rattle.info_tree.specs.Keys.{TellsPlaces}
-use Rattle.info_tree.proofs.Places.{first_of_two, position-push, position-before, not_any}
+use Rattle.info_tree.proofs.Places.{first_of_two, position-push, position-before, list_any-position}
 
 abbrev Places : Type 0
 Places = BTreeMap (String Global) ℕ
@@ -74,4 +74,4 @@ tells_next m n texts i t key low here same distinct tells updates =
 
 -- keys stay apart when a new one comes
 pub distinct_more : (ks : List (List ℕ)) (k : List ℕ) → IsDistinct bytes_eq ks → position (bytes_eq k) ks ≡ None → IsDistinct bytes_eq (ks ++ k ∷ [])
-distinct_more ks k distinct fresh = IsDistinct-push nat_list_eq_equiv ks k distinct (not_any (bytes_eq k) ks fresh)
+distinct_more ks k distinct fresh = IsDistinct-push nat_list_eq_equiv ks k distinct (list_any-position (bytes_eq k) ks ∙ ap is_some fresh)

@@ -1,6 +1,6 @@
 -- The place of the first element that passes a test.
 use Rattle.std.proofs.Common.{◌≡◌, ℕ, zero, suc, ◌+◌, List, [], ◌∷◌, ◌++◌, length, refl, sym, ap, subst, ◌∙◌, arith, Bool, true, false, cond, take}
-use Rattle.std.specs.Prelude.{Option, Some, None, nat_lt, not, map, slice_get}
+use Rattle.std.specs.Prelude.{Option, Some, None, is_some, ◌||◌, nat_lt, not, map, slice_get}
 use Rattle.std.specs.List.{position, position_or_len, list_any, IsDistinct, AllByRecursion}
 use Rattle.std.specs.Str.{bytes_eq}
 use Rattle.std.proofs.lemmas.Bool.Decides.{nat_tests}
@@ -27,22 +27,18 @@ pub position_is : {X : Type 0} (p : X → Bool) (xs : List X) → position p xs 
 position_is p [] = refl
 position_is p (x ∷ xs) = position_step (p x) (position_or_len p xs) (length xs) ∙ ap (λ o. cond (p x) (Some 0) (next_place o)) (position_is p xs)
 
-abbrev IsAbsent : {X : Type 0} → (X → Bool) → List X → Option ℕ → Type 0
-IsAbsent p xs None = list_any p xs ≡ false
-IsAbsent p xs (Some i) = Unit {0}
-
--- what has no place is not there
-absent : {X : Type 0} (p : X → Bool) (xs : List X) → IsAbsent p xs (find_at p xs)
-absent p [] = refl
-absent p (x ∷ xs) = step (p x) refl (find_at p xs) (absent p xs)
+any_found : {X : Type 0} (p : X → Bool) (xs : List X) → list_any p xs ≡ is_some (find_at p xs)
+any_found p [] = refl
+any_found p (x ∷ xs) = step (p x) (find_at p xs) (any_found p xs)
   where
-    step : (b : Bool) → p x ≡ b → (o : Option ℕ) → IsAbsent p xs o → IsAbsent p (x ∷ xs) (cond b (Some 0) (next_place o))
-    step true e o h = tt
-    step false e None h = rw e h
-    step false e (Some i) h = tt
+    step : (b : Bool) (o : Option ℕ) → list_any p xs ≡ is_some o → (b || list_any p xs) ≡ is_some (cond b (Some 0) (next_place o))
+    step true o h = refl
+    step false None h = h
+    step false (Some i) h = h
 
-pub not_any : {X : Type 0} (p : X → Bool) (xs : List X) → position p xs ≡ None → list_any p xs ≡ false
-not_any p xs e = subst (λ (o : Option ℕ). IsAbsent p xs o) (sym (position_is p xs) ∙ e) (absent p xs)
+-- an element passes where there is a place of one
+pub list_any-position : {X : Type 0} (p : X → Bool) (xs : List X) → list_any p xs ≡ is_some (position p xs)
+list_any-position p xs = any_found p xs ∙ ap is_some (sym (position_is p xs))
 
 -- places among what a function gives
 pub position-map : {A B : Type 0} (p : B → Bool) (f : A → B) (xs : List A) → position (λ x. p (f x)) xs ≡ position p (map f xs)

@@ -1,13 +1,13 @@
 -- A printed text grows entry by entry, and a printed string run by run.
-use Rattle.std.proofs.Common.{◌≡◌, ℕ, zero, suc, ◌+◌, ◌<◌, ◌≤◌, List, [], ◌∷◌, ◌++◌, length, refl, sym, ap, subst, ◌∙◌, append_assoc, arith, drop, Bool, true, false, add-one}
-use Rattle.std.specs.Prelude.{Option, Some, None, map, slice_get, ◌==◌, nat_lt, if◌then◌else◌, codes, encode_utf8}
-use Rattle.std.specs.Str.{IsUtf8, chars}
+use Rattle.std.proofs.Common.{◌≡◌, ℕ, zero, suc, ◌+◌, List, [], ◌∷◌, ◌++◌, length, refl, sym, ap, ◌∙◌, append_assoc, arith, drop, Bool, false, add-one}
+use Rattle.std.specs.Prelude.{Option, Some, None, map, slice_get, ◌==◌, nat_lt, if◌then◌else◌, codes}
+use Rattle.std.specs.Str.{chars}
 use Rattle.std.proofs.lemmas.Bool.Decides.{nat_tests}
 use Rattle.std.proofs.lemmas.Option.{none-some}
 use Rattle.std.proofs.lemmas.Str.{chars-nil}
 use Rattle.text_base.specs.Scan.{is_json_special}
 use Rattle.info_tree.specs.Token.{byte, ArePieces}
-use Rattle.info_tree.specs.Tree.{Tree as Plain, list, mapping, Trees, no_trees, a_tree, no_pairs, a_pair, trees_of, pairs_of}
+use Rattle.info_tree.specs.Tree.{Tree as Plain, list, mapping, trees_of, pairs_of}
 use Rattle.info_tree.specs.Printed.{printed, items, members, comma_text, deeper, quoted, escaped, all_by}
 use Rattle.info_tree.specs.declared.style.Style.{Style}
 

@@ -7,6 +7,7 @@ use Rattle.info_tree.specs.Token.{Piece, byte, short, hex, piece_bytes, pieces_b
 use Rattle.info_tree.specs.Strings.{text_from, text_of}
 use Rattle.info_tree.specs.Lexed.{IsString, NoString, EndsEscape, NoEscape, IsEscape}
 use Rattle.info_tree.specs.declared.escape.Escape.{Escape}
+use Rattle.info_tree.proofs.StringLemmas.{text_from-bytes}
 use Rattle.info_tree.proofs.OneToken.{cancel, no_quote, one_piece, heads, not_special}
 
 pieces_bytes-append : (ps qs : List Piece) → pieces_bytes (ps ++ qs) ≡ pieces_bytes ps ++ pieces_bytes qs
@@ -27,14 +28,6 @@ pub record ReadSo (bytes out : List ℕ) (high : Option ℕ) (rest : List ℕ) :
   pub spelled : bytes ≡ pieces_bytes pieces ++ rest
   pub are_pieces : ArePieces pieces
   pub decodes : (more : List Piece) → text_from (pieces ++ more) None ≡ out ++ text_from more high
-
-pub read_none : (bytes out : List ℕ) (high : Option ℕ) → out ≡ [] → high ≡ None → ReadSo bytes out high bytes
-read_none bytes out high e f = record {
-  pieces = [];
-  spelled = refl;
-  are_pieces = tt;
-  decodes = λ more. sym (ap (λ l. l ++ text_from more high) e ∙ ap (λ o. text_from more o) f);
-}
 
 -- more pieces, which spell what stands next
 pub read_more : (bytes out new : List ℕ) (high now : Option ℕ) (rest after : List ℕ) (qs : List Piece) → ReadSo bytes out high rest →
@@ -57,6 +50,15 @@ append-nil : {A : Type 0} (l : List A) → l ++ [] ≡ l
 append-nil [] = refl
 append-nil (x ∷ xs) = ap (λ k. x ∷ k) (append-nil xs)
 
+-- bytes in front that stand for themselves
+pub read_front : (bytes out plain after : List ℕ) (high : Option ℕ) → bytes ≡ plain ++ after → ArePieces (map byte plain) → out ≡ plain → high ≡ None → ReadSo bytes out high after
+read_front bytes out plain after high e are same none = record {
+  pieces = map byte plain;
+  spelled = e ∙ ap (λ l. l ++ after) (sym (pieces_bytes-bytes plain));
+  are_pieces = are;
+  decodes = λ more. text_from-bytes plain more ∙ ap (λ l. l ++ text_from more None) (sym same) ∙ ap (λ o. out ++ text_from more o) (sym none);
+}
+
 pub read_escape : (bytes out new : List ℕ) (high now : Option ℕ) (rest behind after : List ℕ) (e : Escape) → ReadSo bytes out high rest →
     rest ≡ 92 ∷ behind → EndsEscape behind e after → ((p : Piece) (more : List Piece) → IsEscape p e → out ++ text_from (p ∷ more) high ≡ new ++ text_from more now) →
     ReadSo bytes new now after
@@ -75,6 +77,11 @@ read_whole bytes out text high rest after s e f = record {
   are_pieces = s.are_pieces;
   means = ap (λ l. text_from l None) (sym (append-nil s.pieces)) ∙ s.decodes [] ∙ sym f;
 }
+
+-- bytes up to the closing quote that stand for themselves
+pub plain_whole : (bytes text plain rest after : List ℕ) → bytes ≡ plain ++ rest → ArePieces (map byte plain) → rest ≡ 34 ∷ after → text ≡ plain → IsString bytes text after
+plain_whole bytes text plain rest after e are f same =
+    read_whole bytes plain text None rest after (read_front bytes plain plain rest None e are refl refl) f (same ∙ sym (append-nil plain))
 
 -- what a string has behind the pieces that were read
 left : (ps qs : List Piece) (rest after : List ℕ) → ArePieces ps → ArePieces qs → pieces_bytes ps ++ rest ≡ pieces_bytes qs ++ 34 ∷ after →

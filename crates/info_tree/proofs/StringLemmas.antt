@@ -6,7 +6,7 @@ use Rattle.info_tree.specs.Strings.{text_from, flushed}
 use Rattle.info_tree.specs.Lexed.{IsEscape}
 use Rattle.info_tree.specs.declared.escape.Escape.TheVariants as escape
 
-text_from-bytes : (bs : List ℕ) (more : List Piece) → text_from (map byte bs ++ more) None ≡ bs ++ text_from more None
+pub text_from-bytes : (bs : List ℕ) (more : List Piece) → text_from (map byte bs ++ more) None ≡ bs ++ text_from more None
 text_from-bytes [] more = refl
 text_from-bytes (b ∷ bs) more = ap (λ l. b ∷ l) (text_from-bytes bs more)
 

@@ -19,14 +19,15 @@ pub struct Decoded {
 }
 
 impl Decoded {
-    pub fn new(alloc: Global) -> Decoded
-        ensures text { string_bytes result.text ≡ [] }
-        ensures high { result.high ≡ None }
+    /// The text of bytes as they stand.
+    pub fn new(alloc: Global, plain: &str) -> Result<Decoded, OutOfMemory>
+        ensures text { IfOk result (λ d. string_bytes d.text ≡ plain.now) }
+        ensures high { IfOk result (λ d. d.high ≡ None) }
     {
-        Decoded {
-            text: String::new(alloc),
+        Ok(Decoded {
+            text: String::from_str(alloc, plain)?,
             high: None,
-        }
+        })
     }
 
     /// Puts bytes as they stand.

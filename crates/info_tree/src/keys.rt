@@ -11,9 +11,9 @@ use std::marker::Model;
 use text_base::OutOfMemory;
 
 /// As many keys as are looked up one after another.
-const FEW: usize = 16;
+const FEW: usize = 32;
 
-/// The keys of a map: texts of which no two are equal, in the order in which they came.
+/// Texts of which no two are equal, in the order in which they came, as the keys of a map.
 #[derive(Drop)]
 pub struct Keys {
     texts: Vec<String>,

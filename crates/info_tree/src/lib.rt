@@ -16,6 +16,7 @@ mod tree;
 mod tree_fault;
 
 pub use json::tree_json;
+pub use keys::Keys;
 pub use reader::read_tree;
 pub use style::Style;
 pub use tree::{Tree, TreeList, TreeMap};

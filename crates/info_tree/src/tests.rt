@@ -144,3 +144,23 @@ fn a_key_that_is_repeated_often(rt: HostRuntime) -> Result<(), Fail> {
     assert!(rt; matches!(tree.get("last"), Some(Tree::Num(Num::Int(2)))));
     Ok(())
 }
+
+#[test]
+fn many_keys_are_told_apart(rt: HostRuntime) -> Result<(), Fail> {
+    let alloc = rt.alloc();
+    let mut text = String::from_str(alloc, "{")?;
+    for key in 0..100_000u32 {
+        text.push_str(format!(in alloc; "\"{key}\":{key},")?.as_str())?;
+    }
+    text.push_str("\"7\":0}")?;
+    let tree = read_tree(alloc, text.as_bytes())?;
+    let Tree::Map(map) = &tree else {
+        return Err(Fail::from("no map"));
+    };
+    assert_eq!(rt; map.len(), 100_000);
+    assert_eq!(rt; map.pair(7).map(|p| p.0), Some("7"));
+    assert!(rt; matches!(tree.get("7"), Some(Tree::Num(Num::Int(0)))));
+    assert!(rt; matches!(tree.get("99999"), Some(Tree::Num(Num::Int(99_999)))));
+    assert!(rt; tree.get("100000").is_none());
+    Ok(())
+}

@@ -1,8 +1,8 @@
-ghost use Rattle.std.specs.Prelude.{◌≡◌, ◌≢◌, ◌<◌, ◌≤◌, ◌∷◌, None, IfOk, IfErr, IfSome, IfNone, length, slice_index};
+ghost use Rattle.std.specs.Prelude.{◌≡◌, ◌≢◌, ◌<◌, ◌≤◌, ◌∷◌, ◌++◌, None, IfOk, IfErr, IfSome, IfNone, length, map, slice_index};
 ghost use Rattle.std.specs.Option.{option_map};
 ghost use Rattle.std.specs.Str.{IsUtf8};
 ghost use Rattle.std.specs.String.{string_bytes};
-ghost use Rattle.info_tree.specs.Token.{after_space, is_space};
+ghost use Rattle.info_tree.specs.Token.{after_space, is_space, byte, ArePieces};
 ghost use Rattle.info_tree.specs.Lexed.{plain_mark, Lexes, NoneBegins, IsTokenFault, IsString, NoString, sign_at, IsLetter};
 ghost use Rattle.info_tree.specs.Machine.{mark_of};
 
@@ -165,8 +165,31 @@ fn string(alloc: Global, text: &str) -> Result<Option<(String, &str)>, OutOfMemo
     ensures text { IfOk result (λ o. IfSome o (λ p. IsUtf8 p.1.now)) }
     ensures none { IfOk result (λ o. IfNone o (NoString text.now)) }
 {
-    let mut decoded = Decoded::new(alloc);
-    let mut rest = text;
+    let (plain, marked) = split_plain(text);
+    match split_ascii(marked) {
+        Some((byte, after)) if byte == b'"' => {
+            Ok(Some((String::from_str(alloc, plain)?, after)))
+        }
+        _ => marked_string(alloc, text, plain, marked),
+    }
+}
+
+/// The same of a string that begins with these bytes and does not end behind them.
+fn marked_string<'a>(
+    alloc: Global,
+    text: &'a str,
+    plain: &'a str,
+    marked: &'a str,
+) -> Result<Option<(String, &'a str)>, OutOfMemory>
+    requires whole { text.now ≡ plain.now ++ marked.now }
+    requires pieces { ArePieces (map byte plain.now) }
+    ensures string { IfOk result (λ o. IfSome o (λ p. IsString text.now (string_bytes p.0) p.1.now)) }
+    ensures text { IfOk result (λ o. IfSome o (λ p. IsUtf8 p.1.now)) }
+    ensures none { IfOk result (λ o. IfNone o (NoString text.now)) }
+{
+    let _ = text;
+    let mut decoded = Decoded::new(alloc, plain)?;
+    let mut rest = marked;
     'pieces: loop {
         let (plain, marked) = split_plain(rest);
         decoded.push_plain(plain)?;

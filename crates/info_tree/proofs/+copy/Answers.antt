@@ -1,5 +1,5 @@
-use Rattle.std.proofs.Common.{◌≡◌, ◌+◌, ◌*◌, ◌<◌, ◌∙◌, ap, arith, rules, take, sym, refl}
-use Rattle.std.specs.Prelude.{Some, None, slice_get, [], ◌∷◌, ◌++◌}
+use Rattle.std.proofs.Common.{◌≡◌, ◌*◌, ◌<◌, arith, rules}
+use Rattle.std.specs.Prelude.{Some, None, slice_get}
 use Rattle.std.specs.String.{string_bytes}
 use Rattle.std.proofs.lemmas.Option.{slice_get_past}
 use Rattle.info_tree.specs.Tree.{tree_size}

@@ -1,4 +1,4 @@
-use Rattle.std.proofs.Common.{◌≡◌, ℕ, ◌+◌, ◌*◌, ◌<◌, ◌≤◌, length, take}
+use Rattle.std.proofs.Common.{◌≡◌, ◌+◌, ◌*◌, take}
 use Rattle.info_tree.specs.Tree.{trees_of, pairs_of, tree_size, trees_size, pairs_size}
 use Rattle.info_tree.specs.Plain.{plain}
 use Rattle.info_tree.proofs.+copy.Given as goal

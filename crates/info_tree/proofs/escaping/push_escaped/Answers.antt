@@ -1,5 +1,4 @@
-use Rattle.std.proofs.Common.{◌≡◌, ◌++◌, ◌∷◌, [], length, rules}
-use Rattle.std.specs.Prelude.{false}
+use Rattle.std.proofs.Common.{◌≡◌, ◌++◌, length, rules}
 use Rattle.std.specs.String.{string_bytes}
 use Rattle.info_tree.specs.Printed.{inside, escaped, all_by}
 use Rattle.info_tree.proofs.Quoted.{only_special}

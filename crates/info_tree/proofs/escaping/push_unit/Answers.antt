@@ -1,4 +1,4 @@
-use Rattle.std.proofs.Common.{◌≡◌, ℕ, ◌++◌, [], ◌∷◌, ◌/◌, ◌%◌, rules}
+use Rattle.std.proofs.Common.{◌≡◌, ◌++◌, [], ◌∷◌, ◌/◌, ◌%◌, rules}
 use Rattle.std.specs.String.{string_bytes}
 use Rattle.info_tree.specs.Printed.{hex_digit, unit_escape}
 use Rattle.info_tree.proofs.Printing.{unit_put}

@@ -2,7 +2,7 @@ use Rattle.std.proofs.Common.{length}
 use Rattle.std.specs.Str.{IsUtf8}
 use Rattle.std.specs.String.{string_bytes}
 use Rattle.info_tree.proofs.Quoted.{ReadSo}
-use Rattle.info_tree.proofs.token.string.Given as goal
+use Rattle.info_tree.proofs.token.marked_string.Given as goal
 
 abbrev pub invariant-pieces : goal.invariant-pieces
 invariant-pieces l = record {
