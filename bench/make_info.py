@@ -1,5 +1,5 @@
 #!/usr/bin/env python3
-"""Writes information files for the benches: KIND is long, escapes, maps, items, formats or collide; N is MiB, items or formats."""
+"""Writes information files for the benches: KIND is long, escapes, maps, items, formats, keys or repeated; N is MiB, maps, items, formats or keys."""
 import json
 import sys
 
@@ -50,7 +50,21 @@ def formats(count):
         {"format_id": str(j), "ext": "mp4", "vcodec": "avc1", "acodec": "mp4a", "url": "http://h/%d" % j} for j in range(count)]})
 
 
-KINDS = {"long": long_strings, "escapes": escaped_strings, "maps": small_maps, "items": items, "formats": formats}
+def one_map(keys):
+    return '{"id":"x","title":"t","formats":[{"format_id":"1","url":"http://h/1"}],%s}' % ",".join('"%s":%d' % pair for pair in keys)
+
+
+def different_keys(count):
+    # spread over the order of the keys, so that none goes last there
+    return one_map(("key%08d" % (k * 7368787 % 99999989), k) for k in range(count))
+
+
+def repeated_key(count):
+    return one_map(("key", k) for k in range(count))
+
+
+KINDS = {"long": long_strings, "escapes": escaped_strings, "maps": small_maps, "items": items, "formats": formats,
+         "keys": different_keys, "repeated": repeated_key}
 
 if __name__ == "__main__":
     kind, number, path = sys.argv[1], int(sys.argv[2]), sys.argv[3]

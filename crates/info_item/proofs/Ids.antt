@@ -1,10 +1,8 @@
 -- The ids of the entries of a list.
-use Rattle.std.proofs.Common.{◌≡◌, ℕ, zero, suc, ◌+◌, ◌<◌, length, List, [], ◌∷◌, ◌++◌, refl, sym, ap, subst, ◌∙◌, arith, Bool, true, false, cond}
-use Rattle.std.specs.Prelude.{Option, Some, None, Ok, Err, take, slice_get, map, String, not, ◌||◌}
+use Rattle.std.proofs.Common.{◌≡◌, ℕ, zero, suc, ◌+◌, ◌<◌, length, List, [], ◌∷◌, ◌++◌, refl, sym, ap, subst, ◌∙◌, arith, Bool, true, false}
+use Rattle.std.specs.Prelude.{Option, Some, None, Ok, Err, take, slice_get, not, ◌||◌}
 use Rattle.std.specs.List.{list_any}
 use Rattle.std.specs.Str.{bytes_eq}
-use Rattle.std.specs.String.{string_bytes, string_eq}
-use Rattle.std.specs.declared.alloc.Global.{Global}
 use Rattle.info_tree.specs.Tree.{Tree, list, trees_of, tree_list}
 use Rattle.info_item.specs.Formats.{format_id_of, has_id, format_by, format_of, PutsId, Place, place_by, formats_at, list_of}
 use Rattle.info_item.specs.declared.item_fault.ItemFault.TheVariants.{FormatId}
@@ -72,28 +70,6 @@ pub format_of-new : (k j : ℕ) (ts : List Tree) (t : Tree) (id : List ℕ) → 
 format_of-new k j ts t id e h =
     subst (λ (o : Option (List ℕ)). format_by k ts j t o ≡ Ok (record { tree = t; id = id })) (sym e)
     (format_by-new k j ts t id (sym (any-ids_of id (take j ts)) ∙ h))
-
--- a key of a set, as its bytes
-pub any-map : (id : String Global) (ks : List (String Global)) → list_any (string_eq id) ks ≡ list_any (bytes_eq (string_bytes id)) (map string_bytes ks)
-any-map id [] = refl
-any-map id (k ∷ ks) = rw (any-map id ks) refl
-
-pub map-more : (ks : List (String Global)) (k : String Global) → map string_bytes (ks ++ k ∷ []) ≡ map string_bytes ks ++ string_bytes k ∷ []
-map-more [] k = refl
-map-more (x ∷ ks) k = ap (λ l. string_bytes x ∷ l) (map-more ks k)
-
-old-keys : (b : Bool) (ks : List (String Global)) (id : String Global) → true ≡ not b → cond b ks (ks ++ id ∷ []) ≡ ks ++ id ∷ []
-old-keys true ks id e = absurd (cc)
-old-keys false ks id e = refl
-
--- an id that went into the set
-pub puts_id : (ks new : List (String Global)) (id : String Global) (bytes : List ℕ) (b : Bool) → string_bytes id ≡ bytes →
-    b ≡ not (list_any (string_eq id) ks) → new ≡ cond (list_any (string_eq id) ks) ks (ks ++ id ∷ []) → PutsId (map string_bytes ks) (map string_bytes new) bytes b
-puts_id ks new id bytes b text added keys =
-    subst (λ (bs : List ℕ). PutsId (map string_bytes ks) (map string_bytes new) bs b) text (
-      added ∙ ap not (any-map id ks),
-      λ is_new. ap (map string_bytes) (keys ∙ old-keys (list_any (string_eq id) ks) ks id (sym is_new ∙ added)) ∙ map-more ks id,
-    )
 
 -- a list of trees and back
 pub tree_list-trees_of : (ts : List Tree) → tree_list (trees_of ts) ≡ ts

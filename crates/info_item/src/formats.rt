@@ -1,14 +1,12 @@
 //! The formats of an item.
-ghost use Rattle.std.specs.Prelude.{◌≡◌, ◌<◌, length, map, slice_get, Some, IfOk, IfErr};
-ghost use Rattle.std.specs.String.{string_bytes};
+ghost use Rattle.std.specs.Prelude.{◌≡◌, ◌<◌, length, slice_get, Some, IfOk, IfErr};
 ghost use Rattle.info_tree.specs.Plain.{plain};
 ghost use Rattle.info_item.specs.Formats as spec;
 
 use crate::format::Format;
 use crate::item_fault::ItemFault;
 use crate::keys::{id_of, text_at};
-use indexmap::IndexSet;
-use info_tree::{Tree, TreeList};
+use info_tree::{Keys, Tree, TreeList};
 use std::alloc::Global;
 use text_base::{OutOfMemory, Text};
 
@@ -45,7 +43,7 @@ fn listed(alloc: Global, k: usize, list: &TreeList) -> Result<Vec<Format<'_>>, I
     ensures formats { IfOk result (λ formats. spec.list_of k list.now ≡ Ok formats.items) }
     ensures fault { IfErr result (spec.IsFaultOf (spec.list_of k list.now)) }
 {
-    let mut ids = IndexSet::new(alloc);
+    let mut ids = Keys::new(alloc);
     let mut formats = Vec::new(alloc);
     for j in 0..list.len() {
         let tree = entry(list, j);
@@ -61,11 +59,14 @@ fn listed(alloc: Global, k: usize, list: &TreeList) -> Result<Vec<Format<'_>>, I
 }
 
 /// Puts an id among those before it, and says whether it is new.
-fn add_id(alloc: Global, ids: &mut IndexSet<String>, id: &str) -> Result<bool, OutOfMemory>
-    ensures { IfOk result (λ new. spec.PutsId (map string_bytes ids.old.keys)
-        (map string_bytes ids.new.keys) id.now new) }
+fn add_id(alloc: Global, ids: &mut Keys, id: &str) -> Result<bool, OutOfMemory>
+    ensures { IfOk result (λ new. spec.PutsId ids.old ids.new id.now new) }
 {
-    Ok(ids.insert(String::from_str(alloc, id)?)?)
+    if ids.place_of(id).is_some() {
+        return Ok(false);
+    }
+    ids.push(String::from_str(alloc, id)?)?;
+    Ok(true)
 }
 
 /// An item as its only format.

@@ -1,5 +1,4 @@
-use Rattle.std.proofs.Common.{◌≡◌, sym, ap, ◌∙◌, Some, None, map, Ok}
-use Rattle.std.specs.String.{string_bytes}
+use Rattle.std.proofs.Common.{◌≡◌, sym, ap, ◌∙◌, Some, None, Ok}
 use Rattle.std.specs.Prelude.{take}
 use Rattle.info_tree.specs.Plain.{plain}
 use Rattle.info_item.specs.Formats as spec
@@ -19,7 +18,7 @@ pub returns-then-not-branch-clause-fault : goal.returns-then-not-branch-clause-f
 returns-then-not-branch-clause-fault c =
     let tree = plain c.entry-tree.result.now in
     let known : spec.format_id_of tree ≡ Some c.in-Some.id = rw c.in-Some.is at (sym c.in_ok-id.ensures) in
-    let old = seen (map string_bytes c.loop-j.ids.keys) (map string_bytes c.add_id.new.ids.keys) (ids_of (take c.loop-j.j c.args.list.now)) c.as_str.result.now
+    let old = seen c.loop-j.ids c.add_id.new.ids (ids_of (take c.loop-j.j c.args.list.now)) c.as_str.result.now
     c.in-Some.id c.in_ok-add_id.field-0 c.as_str.ensures c.loop-j.invariant.ids c.in_ok-add_id.ensures c.if-not-branch.true in
     each-fault (spec.format_of c.args.k c.args.list.now) c.loop-j.j c.args.list.now c.loop-j.formats.items tree (FormatId c.args.k c.loop-j.j) c.entry-tree.ensures
     c.loop-j.invariant.read (format_of-old c.args.k c.loop-j.j c.args.list.now tree c.in-Some.id known old)
@@ -29,9 +28,9 @@ loop-j-preserved c =
     let tree = plain c.entry-tree.result.now in
     let known : spec.format_id_of tree ≡ Some c.in-Some.id = rw c.in-Some.is at (sym c.in_ok-id.ensures) in
     let ids = ids_of (take c.loop-j.j c.args.list.now) in
-    let new = unseen (map string_bytes c.loop-j.ids.keys) (map string_bytes c.add_id.new.ids.keys) ids c.as_str.result.now
+    let new = unseen c.loop-j.ids c.add_id.new.ids ids c.as_str.result.now
     c.in-Some.id c.in_ok-add_id.field-0 c.as_str.ensures c.loop-j.invariant.ids c.in_ok-add_id.ensures c.if-not-branch.false in
-    let last = put-last (map string_bytes c.loop-j.ids.keys) (map string_bytes c.add_id.new.ids.keys) ids c.as_str.result.now
+    let last = put-last c.loop-j.ids c.add_id.new.ids ids c.as_str.result.now
     c.in-Some.id c.in_ok-add_id.field-0 c.as_str.ensures c.loop-j.invariant.ids c.in_ok-add_id.ensures c.if-not-branch.false in
     let value : spec.format_of c.args.k c.args.list.now c.loop-j.j tree ≡ Ok c.in_ok-new.field-0 =
     format_of-new c.args.k c.loop-j.j c.args.list.now tree c.in-Some.id known new ∙ ap Ok (sym c.in_ok-new.ensures) in
