@@ -1,11 +1,14 @@
-pub mod Departures
 pub mod EntryLemmas
 pub mod FaultLemmas
+pub mod FormLemmas
 pub mod InfoLemmas
 pub mod LimitLemmas
 pub mod MemoryLemmas
+pub mod NameLemmas
 pub mod ReadingLemmas
 pub mod RunLemmas
 pub mod ScriptLemmas
 pub mod StemLemmas
+pub mod TableLemmas
 pub mod ToldLemmas
+pub mod WordsLemmas

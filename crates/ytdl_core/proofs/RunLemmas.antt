@@ -1,93 +1,138 @@
 -- What the top call answers, exit by exit.
-use Rattle.std.proofs.Common.{◌≡◌, ◌≢◌, ◌⊎◌, ◌↔◌, ℕ, ◌≤◌, List, [], take, drop, refl, sym, ap, subst, inl, inr}
-use Rattle.std.specs.Prelude.{Option, Some, None, IfSome, Result, Ok, Err, IfErr}
+use Rattle.std.proofs.Common.{◌≡◌, ◌⊎◌, ℕ, List, take, drop, refl, sym, ◌∙◌, subst, inl, inr}
+use Rattle.std.specs.Prelude.{Option, Some, None, IfSome, Result, Ok, Err}
 use Rattle.ytdl_core.specs.declared.entry.Entry.{Entry}
 use Rattle.ytdl_core.specs.declared.report.Report.{Report}
-use Rattle.ytdl_core.specs.declared.run_fault.OptionFault.TheVariants.{NotBuilt}
+use Rattle.ytdl_core.specs.declared.options.Options.{Options}
+use Rattle.ytdl_core.specs.declared.run_fault.OptionFault.{OptionFault}
+use Rattle.ytdl_core.specs.declared.words_fault.WordsFault.{WordsFault}
+use Rattle.ytdl_core.specs.declared.words_fault.WordsFault.TheVariants.{Bad, OutOfMemory as NoMemory}
 use Rattle.ytdl_core.specs.declared.run_fault.InfoFault.{InfoFault}
 use Rattle.ytdl_core.specs.declared.run_fault.RunFault.{RunFault}
-use Rattle.ytdl_core.specs.declared.run_fault.RunFault.TheVariants.{Options, Info, InfoRead, Write, OutOfMemory}
+use Rattle.ytdl_core.specs.declared.run_fault.RunFault.TheVariants.{Options as Words, Info, InfoRead, Write, OutOfMemory}
 use Rattle.info_item.specs.Item.{Item as PlainItem}
 use Rattle.ytdl_core.specs.Outside.{File}
-use Rattle.ytdl_core.specs.Words.{Command, Asks, DepartsAt}
-use Rattle.ytdl_core.specs.Lines.{Sends, SendsSome, lines_of}
+use Rattle.ytdl_core.specs.Words.{Asks, words_of}
 use Rattle.ytdl_core.specs.Reading.{IsReadFault}
-use Rattle.ytdl_core.specs.Report.{ends_of}
-use Rattle.ytdl_core.specs.Run.{OfFile, HaveItems, HaveFault, HaveEntries, IsOfFault, IsOfItems, IsExactOf, IsExact, IsFaultOfBytes, IsSinkFault, IsUntold, IsReported, SendsFront}
-use Rattle.ytdl_core.proofs.Departures.{one_departure}
+use Rattle.ytdl_core.specs.Run.{OfFile, OfFaultyFile, HaveItems, HaveFault, HaveEntries, IsOfFault, IsOfItems, IsExactOf, IsExact, IsOfWords, IsFaultOfBytes, IsSinkFault, IsUntold, SendsFront}
 use Rattle.ytdl_core.proofs.LimitLemmas.{fault_of_whole, fault_of_read, items_of_read, entries_of_whole}
 
--- the place is that of the departure, and no other
-pub departed : (words : List (List ℕ)) (word place : ℕ) → DepartsAt words word →
-    (◌≡◌ {A = Result Report RunFault} (Err (Options word NotBuilt)) (Err (Options place NotBuilt))) ↔ DepartsAt words place
-departed words word place here = (
-  λ e. let same : word ≡ place = cc e in subst (DepartsAt words) same here,
-  λ other. let same : word ≡ place = one_departure words word place here other in ap (λ p. Err (Options p NotBuilt)) same,
-)
+-- an answer that is not want of memory is that of the words
+pub asks_of : (words : List (List ℕ)) (options : Options) → ((◌≡◌ {A = Result Options WordsFault} (Ok options) (words_of words)) ⊎ (◌≡◌ {A = Result Options WordsFault} (Ok options) (Err NoMemory))) →
+    Asks words options
+asks_of words options (inl same) = sym same
+asks_of words options (inr other) = cc other
 
--- words that ask for a command do not depart, and no word is blamed
-pub asked : (words : List (List ℕ)) (command : Command) (r : Result Report RunFault) → Asks words command →
-    ((place : ℕ) → r ≡ Err (Options place NotBuilt) → ⊥) → (place : ℕ) → (r ≡ Err (Options place NotBuilt)) ↔ DepartsAt words place
-asked words command r asks other place = (λ e. absurd (other place e), λ departs. absurd (departs.none command asks))
+pub bad_of : (words : List (List ℕ)) (word : ℕ) (fault : OptionFault) →
+    ((◌≡◌ {A = Result Options WordsFault} (Err (Bad word fault)) (words_of words)) ⊎ (◌≡◌ {A = Result Options WordsFault} (Err (Bad word fault)) (Err NoMemory))) →
+    words_of words ≡ Err (Bad word fault)
+bad_of words word fault (inl same) = sym same
+bad_of words word fault (inr other) = cc other
+
+-- words with a fault are blamed
+pub blamed_word : (words : List (List ℕ)) (word : ℕ) (fault : OptionFault) → words_of words ≡ Err (Bad word fault) →
+    IsOfWords {T = Report} words (Err (Words word fault))
+blamed_word words word fault is = record {
+  blamed = λ place other e. let same : (◌≡◌ {A = RunFault} (Words word fault) (Words place other)) = cc e in cc;
+  answered = λ place other e. let same : (◌≡◌ {A = Result Options WordsFault} (Err (Bad word fault)) (Err (Bad place other))) = sym is ∙ e in inl (cc same);
+}
+
+-- want of memory blames no word
+pub out_of_memory : (words : List (List ℕ)) → IsOfWords {T = Report} words (Err OutOfMemory)
+out_of_memory words = record {
+  blamed = λ place other e. cc e;
+  answered = λ place other e. inr refl;
+}
 
 -- a fault that blames no word
 abbrev pub BlamesNoWord : RunFault → Type 0
-BlamesNoWord (Options word fault) = ⊥
+BlamesNoWord (Words word fault) = ⊥
 BlamesNoWord (Info fault) = Unit {0}
 BlamesNoWord InfoRead = Unit {0}
 BlamesNoWord (Write which) = Unit {0}
 BlamesNoWord OutOfMemory = Unit {0}
 
 pub no_word_of_read : (before now : ℕ) (f : RunFault) → IsReadFault before now f → BlamesNoWord f
-no_word_of_read before now (Options word fault) is = is
+no_word_of_read before now (Words word fault) is = is
 no_word_of_read before now (Info fault) is = tt
 no_word_of_read before now InfoRead is = tt
 no_word_of_read before now (Write which) is = tt
 no_word_of_read before now OutOfMemory is = tt
 
 pub no_word_of_bytes : (bytes : List ℕ) (f : RunFault) → IsFaultOfBytes bytes f → BlamesNoWord f
-no_word_of_bytes bytes (Options word fault) is = is
+no_word_of_bytes bytes (Words word fault) is = is
 no_word_of_bytes bytes (Info fault) is = tt
 no_word_of_bytes bytes InfoRead is = tt
 no_word_of_bytes bytes (Write which) is = tt
 no_word_of_bytes bytes OutOfMemory is = tt
 
 pub no_word_of_sink : (f : RunFault) → IsSinkFault f → BlamesNoWord f
-no_word_of_sink (Options word fault) is = is
+no_word_of_sink (Words word fault) is = is
 no_word_of_sink (Info fault) is = tt
 no_word_of_sink InfoRead is = tt
 no_word_of_sink (Write which) is = tt
 no_word_of_sink OutOfMemory is = tt
 
-pub asked_err : (words : List (List ℕ)) (command : Command) (f : RunFault) → Asks words command → BlamesNoWord f →
-    (place : ℕ) → (◌≡◌ {A = Result Report RunFault} (Err f) (Err (Options place NotBuilt))) ↔ DepartsAt words place
-asked_err words command f asks none =
-    asked words command (Err f) asks (λ place e. let same : f ≡ Options place NotBuilt = cc e in subst BlamesNoWord same none)
+-- words that ask for options have no fault
+not_both : (words : List (List ℕ)) (options : Options) (fault : WordsFault) → Asks words options → words_of words ≡ Err fault → ⊥
+not_both words options fault asks is = let same : (◌≡◌ {A = Result Options WordsFault} (Ok options) (Err fault)) = sym asks ∙ is in cc same
 
-pub asked_ok : (words : List (List ℕ)) (command : Command) (report : Report) → Asks words command →
-    (place : ℕ) → (◌≡◌ {A = Result Report RunFault} (Ok report) (Err (Options place NotBuilt))) ↔ DepartsAt words place
-asked_ok words command report asks = asked words command (Ok report) asks (λ place e. cc e)
+pub asked_err : (words : List (List ℕ)) (options : Options) (f : RunFault) → Asks words options → BlamesNoWord f →
+    IsOfWords {T = Report} words (Err f)
+asked_err words options f asks none = record {
+  blamed = λ place other e. let same : f ≡ Words place other = cc e in absurd (subst BlamesNoWord same none);
+  answered = λ place other e. absurd (not_both words options (Bad place other) asks e);
+}
+
+pub asked_ok : (words : List (List ℕ)) (options : Options) (report : Report) → Asks words options → IsOfWords words (Ok report)
+asked_ok words options report asks = record {
+  blamed = λ place other e. cc e;
+  answered = λ place other e. absurd (not_both words options (Bad place other) asks e);
+}
+
+-- words with a fault name no file
+pub exact_bad : (words : List (List ℕ)) (told : Option File) (word : ℕ) (fault : OptionFault) → words_of words ≡ Err (Bad word fault) →
+    IsExact words told (Err (Words word fault))
+exact_bad words told word fault is = record {
+  info = λ info e. cc e;
+  faults = λ options asks. absurd (not_both words options (Bad word fault) asks is);
+  items = λ options asks. absurd (not_both words options (Bad word fault) asks is);
+}
+
+each_file : (told : Option File) (P : File → Type 0) → ((file : File) → P file) → IfSome told P
+each_file None P each = tt
+each_file (Some file) P each = each file
+
+pub exact_memory : (words : List (List ℕ)) (told : Option File) → IsExact words told (Err OutOfMemory)
+exact_memory words told = record {
+  info = λ info e. cc e;
+  faults = λ options asks. each_file told (λ file. (fault : InfoFault) → HaveFault file.bytes fault → IsOfFault {T = Report} fault (Err OutOfMemory)) (λ file fault have. tt);
+  items = λ options asks. each_file told (λ file. (items : List PlainItem) → HaveItems file.bytes items → IsOfItems {T = Report} (Err OutOfMemory)) (λ file items have. tt);
+}
 
 -- What holds of the bytes that were read holds of the file that the source tells.
-module _ (words : List (List ℕ)) (told : Option File) (command : Command) (bytes : List ℕ) (left : Option (List ℕ)) (asks : Asks words command)
-    (named : IfSome told (λ file. file.name ≡ command.file))
+module _ (words : List (List ℕ)) (told : Option File) (options : Options) (bytes : List ℕ) (left : Option (List ℕ)) (asks : Asks words options)
+    (named : IfSome told (λ file. file.name ≡ options.info))
     (read : IfSome told (λ file. (bytes ≡ take 67108865 file.bytes) × (left ≡ Some (drop 67108865 file.bytes)))) where
-  of_file : (AreSo : Command → List ℕ → Type 0) → ((b : List ℕ) → AreSo command (take 67108865 b) → AreSo command b) → AreSo command bytes →
-      OfFile words told AreSo
-  of_file AreSo whole so = record { command = command; asks = asks; file = file told named read } where
-    file : (told' : Option File) → IfSome told' (λ f. f.name ≡ command.file) →
+  of_file : (AreSo : List ℕ → Type 0) → ((b : List ℕ) → AreSo (take 67108865 b) → AreSo b) → AreSo bytes → OfFile options told AreSo
+  of_file AreSo whole so = file told named read where
+    file : (told' : Option File) → IfSome told' (λ f. f.name ≡ options.info) →
         IfSome told' (λ f. (bytes ≡ take 67108865 f.bytes) × (left ≡ Some (drop 67108865 f.bytes))) →
-        IfSome told' (λ f. (f.name ≡ command.file) × AreSo command f.bytes)
+        IfSome told' (λ f. (f.name ≡ options.info) × AreSo f.bytes)
     file None named' read' = tt
-    file (Some f) named' read' = (named', whole f.bytes (subst (AreSo command) read'.0 so))
+    file (Some f) named' read' = (named', whole f.bytes (subst AreSo read'.0 so))
 
-  pub entries_of_file : (entries : List Entry) → HaveEntries entries command.choice bytes →
-      OfFile words told (λ c b. HaveEntries entries c.choice b)
+  pub entries_of_file : (entries : List Entry) → HaveEntries entries options.choice bytes →
+      OfFile options told (HaveEntries entries options.choice)
   entries_of_file entries have =
-      of_file (λ c b. HaveEntries entries c.choice b) (λ b h. entries_of_whole entries command.choice b h) have
+      of_file (HaveEntries entries options.choice) (λ b h. entries_of_whole entries options.choice b h) have
 
-  pub fault_of_file : (fault : InfoFault) → HaveFault bytes fault → OfFile words told (λ c b. HaveFault b fault)
-  fault_of_file fault have = of_file (λ c b. HaveFault b fault) (λ b h. fault_of_whole b fault h) have
+  pub fault_of_file : (fault : InfoFault) → HaveFault bytes fault → OfFaultyFile words told fault
+  fault_of_file fault have = record {
+    options = options;
+    asks = asks;
+    file = of_file (λ b. HaveFault b fault) (λ b h. fault_of_whole b fault h) have;
+  }
 
   -- where each fault of the bytes has its answer, so has each of the file
   by_faults : (P : InfoFault → Type 0) → ((fault : InfoFault) → HaveFault bytes fault → P fault) →
@@ -115,14 +160,14 @@ module _ (words : List (List ℕ)) (told : Option File) (command : Command) (byt
     items = λ other asks_too. by_items (IsOfItems {T = Report} (Err f)) (λ items have. items_any T f (exact.items items have));
   } where
     fault_any : (U : Type 0) (g : RunFault) (fault : InfoFault) → IsOfFault {T = U} fault (Err g) → IsOfFault {T = Report} fault (Err g)
-    fault_any U (Options word option) fault is = is
+    fault_any U (Words word option) fault is = is
     fault_any U (Info info) fault is = is
     fault_any U InfoRead fault is = is
     fault_any U (Write which) fault is = is
     fault_any U OutOfMemory fault is = is
 
     items_any : (U : Type 0) (g : RunFault) → IsOfItems {T = U} (Err g) → IsOfItems {T = Report} (Err g)
-    items_any U (Options word option) is = is
+    items_any U (Words word option) is = is
     items_any U (Info info) is = is
     items_any U InfoRead is = is
     items_any U (Write which) is = is
@@ -142,7 +187,7 @@ module _ (words : List (List ℕ)) (told : Option File) (command : Command) (byt
     items = λ other asks_too. by_items (IsOfItems {T = Report} (Err f)) (λ items have. served f is);
   } where
     served : (g : RunFault) → IsSinkFault g → IsOfItems {T = Report} (Err g)
-    served (Options word option) bad = bad
+    served (Words word option) bad = bad
     served (Info info) bad = bad
     served InfoRead bad = tt
     served (Write which) bad = tt
@@ -151,7 +196,7 @@ module _ (words : List (List ℕ)) (told : Option File) (command : Command) (byt
 -- what a sink's fault leaves
 pub untold_sink : (words : List (List ℕ)) (told : Option File) (out out_now err err_now : Option (List ℕ)) (f : RunFault) → IsSinkFault f →
     SendsFront words told out out_now err err_now → IsUntold words told out out_now err err_now f
-untold_sink words told out out_now err err_now (Options word option) is front = absurd is
+untold_sink words told out out_now err err_now (Words word option) is front = absurd is
 untold_sink words told out out_now err err_now (Info info) is front = absurd is
 untold_sink words told out out_now err err_now InfoRead is front = absurd is
 untold_sink words told out out_now err err_now (Write which) is front = front

@@ -7,7 +7,7 @@ use Rattle.text_base.specs.Causes.{Rose}
 use Rattle.ytdl_core.specs.declared.run_fault.RunFault.{RunFault}
 use Rattle.ytdl_core.specs.declared.run_fault.RunFault.TheVariants.{Options, Info, InfoRead, Write, OutOfMemory}
 use Rattle.ytdl_core.specs.Outside.{File, AppendsFront}
-use Rattle.ytdl_core.specs.Lines.{Script, Sends, SendsSome, TellsLine, fault_line, err_bytes, lines_of}
+use Rattle.ytdl_core.specs.Lines.{Script, Sends, TellsLine, fault_line, err_bytes, lines_of}
 use Rattle.ytdl_core.specs.Run.{IsUntold, IsTold, SendsLine, SendsFront}
 use Rattle.ytdl_core.proofs.FaultLemmas.{rose_since}
 use Rattle.ytdl_core.proofs.ScriptLemmas.{appends_more}
@@ -58,9 +58,11 @@ module _ (words : List (List ℕ)) (told : Option File) (out out_now err err_the
 
   front_told : Appends err_then err_now [] → SendsFront words told out out_now err err_then → SendsFront words told out out_now err err_now
   front_told nothing front = record {
+    options = front.options;
+    asks = front.asks;
     entries = front.entries;
     are_entries = front.are_entries;
-    front = record { count = front.front.count; front = nothing_told (take front.front.count (lines_of 1 front.entries)) nothing front.front.front };
+    front = record { count = front.front.count; front = nothing_told (take front.front.count (lines_of front.options 1 front.entries)) nothing front.front.front };
   }
 
   memory_told : Appends err_then err_now [] → Sends [] out out_now err err_then ⊎ SendsFront words told out out_now err err_then →

@@ -1,8 +1,7 @@
 -- What is printed: a line for each entry, or one for a fault. Items, words and formats are counted from 1 there, bytes from 0.
-use Rattle.std.specs.Prelude.{◌≡◌, ◌⊎◌, ℕ, ◌+◌, ◌≤◌, List, [], ◌∷◌, ◌++◌, map, take, Bool, true, false, if◌then◌else◌, codes, decimal, Option}
+use Rattle.std.specs.Prelude.{◌⊎◌, ℕ, zero, suc, ◌+◌, ◌≤◌, List, [], ◌∷◌, ◌++◌, map, take, Bool, true, false, if◌then◌else◌, codes, decimal, Option}
 use Rattle.std.specs.Io.KnownBytes.{Appends}
 use Rattle.text_base.specs.Causes.{Rose}
-use Rattle.text_base.specs.declared.num_fault.NumFault.{NumFault}
 use Rattle.info_tree.specs.declared.tree_fault.TreeFault.{TreeFault}
 use Rattle.info_tree.specs.declared.tree_fault.TreeFault.TheVariants as tree
 use Rattle.info_item.specs.declared.item_fault.ItemFault.{ItemFault}
@@ -10,11 +9,12 @@ use Rattle.info_item.specs.declared.item_fault.ItemFault.TheVariants as item
 use Rattle.ytdl_core.specs.declared.run_fault.Which.{Which}
 use Rattle.ytdl_core.specs.declared.run_fault.Which.TheVariants.{Out, Err}
 use Rattle.ytdl_core.specs.declared.run_fault.OptionFault.{OptionFault}
-use Rattle.ytdl_core.specs.declared.run_fault.OptionFault.TheVariants.{NotBuilt}
+use Rattle.ytdl_core.specs.declared.run_fault.OptionFault.TheVariants as option
 use Rattle.ytdl_core.specs.declared.run_fault.InfoFault.{InfoFault}
 use Rattle.ytdl_core.specs.declared.run_fault.InfoFault.TheVariants.{Tree, Item}
 use Rattle.ytdl_core.specs.declared.run_fault.RunFault.{RunFault}
-use Rattle.ytdl_core.specs.declared.run_fault.RunFault.TheVariants.{Options, Info, InfoRead, Write, OutOfMemory}
+use Rattle.ytdl_core.specs.declared.run_fault.RunFault.TheVariants.{Options as Words, Info, InfoRead, Write, OutOfMemory}
+use Rattle.ytdl_core.specs.declared.options.Options.{Options}
 use Rattle.ytdl_core.specs.Outside.{AppendsFront}
 use Rattle.ytdl_core.specs.declared.entry.Entry.{Entry}
 use Rattle.ytdl_core.specs.declared.entry.Entry.TheVariants as entry
@@ -50,16 +50,28 @@ pub record SendsSome (script : Script) (out out_now err err_now : Option (List �
   pub count : ℕ
   pub front : Sends (take count script) out out_now err err_now
 
--- the line of an entry, by its item's number
-abbrev pub line_of : ℕ → Entry → Script
-line_of number (entry.Shown stem extension) = all_to Out (stem ++ codes "." ++ extension ++ codes "\n")
-line_of number entry.NoFormat = all_to Err (codes "ERROR: item " ++ decimal number ++ codes ": requested format is not available\n")
-line_of number entry.NotBuilt = all_to Err (codes "ERROR: item " ++ decimal number ++ codes ": not built\n")
+abbrev pub name_line : List ℕ → List ℕ → List ℕ
+name_line stem extension = stem ++ codes "." ++ extension ++ codes "\n"
+
+-- so many times the same line
+unfoldable pub repeated : ℕ → List ℕ → List ℕ
+repeated zero line = []
+repeated (suc count) line = repeated count line ++ line
+
+-- what a name is printed as: by itself for each print, and as simulated where the run is not quiet
+abbrev pub name_lines : Options → List ℕ → List ℕ
+name_lines options line = repeated options.prints line ++ (if options.quiet then [] else codes "[simulate] " ++ line)
+
+-- the lines of an entry, by its item's number
+abbrev pub line_of : Options → ℕ → Entry → Script
+line_of options number (entry.Shown stem extension) = all_to Out (name_lines options (name_line stem extension))
+line_of options number entry.NoFormat = all_to Err (codes "ERROR: item " ++ decimal number ++ codes ": requested format is not available\n")
+line_of options number entry.NotBuilt = all_to Err (codes "ERROR: item " ++ decimal number ++ codes ": not built\n")
 
 -- the lines of entries, the first of which is that of the item with this number
-abbrev pub lines_of : ℕ → List Entry → Script
-lines_of number [] = []
-lines_of number (first ∷ rest) = line_of number first ++ lines_of (number + 1) rest
+abbrev pub lines_of : Options → ℕ → List Entry → Script
+lines_of options number [] = []
+lines_of options number (first ∷ rest) = line_of options number first ++ lines_of options (number + 1) rest
 
 -- why the bytes are no tree
 abbrev pub tree_text : TreeFault → List ℕ
@@ -83,11 +95,17 @@ info_text (Tree fault) = tree_text fault
 info_text (Item fault) = item_text fault
 
 abbrev pub option_text : OptionFault → List ℕ
-option_text NotBuilt = codes "not built"
+option_text option.Unknown = codes "unknown option"
+option_text option.NeedsValue = codes "value missing"
+option_text option.BadValue = codes "bad value"
+option_text option.NoInfo = codes "no --load-info-json"
+option_text option.Extra = codes "unexpected word"
+option_text option.TakesNone = codes "takes no value"
+option_text option.NotBuilt = codes "not built"
 
 -- the line of a fault; a sink that failed and want of memory have none
 abbrev pub fault_line : RunFault → List ℕ
-fault_line (Options word fault) = codes "ERROR: word " ++ decimal (word + 1) ++ codes ": " ++ option_text fault ++ codes "\n"
+fault_line (Words word fault) = codes "ERROR: word " ++ decimal (word + 1) ++ codes ": " ++ option_text fault ++ codes "\n"
 fault_line (Info fault) = codes "ERROR: info: " ++ info_text fault ++ codes "\n"
 fault_line InfoRead = codes "ERROR: info: reading failed\n"
 fault_line (Write which) = []

@@ -1,5 +1,5 @@
 -- What the top call answers, and what it leaves in the sinks.
-use Rattle.std.specs.Prelude.{◌≡◌, ◌≢◌, ◌⊎◌, ℕ, ◌+◌, ◌≤◌, List, [], ◌++◌, take, drop, Bool, true, Option, Some, None, IfSome, Result, Ok, Err, IfErr, IsErrOf}
+use Rattle.std.specs.Prelude.{◌≡◌, ◌≢◌, ◌⊎◌, ℕ, ◌+◌, ◌≤◌, List, [], drop, Bool, true, Option, Some, IfSome, Result, Ok, Err, IfErr, IsErrOf}
 use Rattle.std.specs.Io.KnownBytes.{Appends}
 use Rattle.text_base.specs.Causes.{Rose}
 use Rattle.info_tree.specs.Tree.{Tree as Plain}
@@ -12,10 +12,13 @@ use Rattle.ytdl_core.specs.declared.run_fault.Which.{Which}
 use Rattle.ytdl_core.specs.declared.run_fault.InfoFault.{InfoFault}
 use Rattle.ytdl_core.specs.declared.run_fault.InfoFault.TheVariants.{Tree, Item}
 use Rattle.ytdl_core.specs.declared.run_fault.RunFault.{RunFault}
-use Rattle.ytdl_core.specs.declared.run_fault.RunFault.TheVariants.{Options, Info, InfoRead, Write, OutOfMemory}
+use Rattle.ytdl_core.specs.declared.run_fault.RunFault.TheVariants.{Options as Words, Info, InfoRead, Write, OutOfMemory}
 use Rattle.ytdl_core.specs.declared.report.Report.{Report}
 use Rattle.ytdl_core.specs.Outside.{File, AppendsFront}
-use Rattle.ytdl_core.specs.Words.{Command, Asks}
+use Rattle.ytdl_core.specs.declared.options.Options.{Options}
+use Rattle.ytdl_core.specs.declared.run_fault.OptionFault.{OptionFault}
+use Rattle.ytdl_core.specs.declared.words_fault.WordsFault.TheVariants.{Bad}
+use Rattle.ytdl_core.specs.Words.{Asks, words_of}
 use Rattle.ytdl_core.specs.declared.entry.Entry.{Entry}
 use Rattle.ytdl_core.specs.Entry.{entries_of}
 use Rattle.ytdl_core.specs.Report.{ends_of}
@@ -38,11 +41,15 @@ abbrev pub HaveFault : List ℕ → InfoFault → Type 0
 HaveFault bytes (Tree fault) = Has bytes fault × (fault ≢ tree.OutOfMemory)
 HaveFault bytes (Item fault) = HaveItemFault bytes fault
 
--- The words ask for a command. Where the source tells its file, that is the file that they name, and its bytes are so.
-pub record OfFile (words : List (List ℕ)) (told : Option File) (AreSo : Command → List ℕ → Type 0) : Type 0 where
-  pub command : Command
-  pub asks : Asks words command
-  pub file : IfSome told (λ file. (file.name ≡ command.file) × AreSo command file.bytes)
+-- where the source tells its file, that is the file that the options name, and its bytes are so
+abbrev pub OfFile : Options → Option File → (List ℕ → Type 0) → Type 0
+OfFile options told AreSo = IfSome told (λ file. (file.name ≡ options.info) × AreSo file.bytes)
+
+-- The file that the words name has this fault, where the source tells it.
+pub record OfFaultyFile (words : List (List ℕ)) (told : Option File) (fault : InfoFault) : Type 0 where
+  pub options : Options
+  pub asks : Asks words options
+  pub file : OfFile options told (λ bytes. HaveFault bytes fault)
 
 -- The entries are those of a choice over the items that the bytes have.
 pub record HaveEntries (entries : List Entry) (choice : Option (List ℕ)) (bytes : List ℕ) : Type 0 where
@@ -50,17 +57,25 @@ pub record HaveEntries (entries : List Entry) (choice : Option (List ℕ)) (byte
   pub have : HaveItems bytes items
   pub are : entries ≡ entries_of choice items
 
+-- The word that is blamed is the first at fault, and words with a fault are blamed, unless memory ran out.
+pub record IsOfWords {T : Type 0} (words : List (List ℕ)) (result : Result T RunFault) : Type 0 where
+  pub blamed : (word : ℕ) (fault : OptionFault) → result ≡ Err (Words word fault) → words_of words ≡ Err (Bad word fault)
+  pub answered : (word : ℕ) (fault : OptionFault) → words_of words ≡ Err (Bad word fault) →
+      (result ≡ Err (Words word fault)) ⊎ (result ≡ Err OutOfMemory)
+
 -- A report has an end for each entry, in order, and every line was written.
 pub record IsReported (words : List (List ℕ)) (told : Option File) (out out_now err err_now : Option (List ℕ)) (report : Report) : Type 0 where
+  pub options : Options
+  pub asks : Asks words options
   pub entries : List Entry
-  pub are_entries : OfFile words told (λ command bytes. HaveEntries entries command.choice bytes)
+  pub are_entries : OfFile options told (HaveEntries entries options.choice)
   pub ends : report.ends.items ≡ ends_of 0 entries
-  pub lines : Sends (lines_of 1 entries) out out_now err err_now
+  pub lines : Sends (lines_of options 1 entries) out out_now err err_now
 
 -- an answer where the bytes have this fault
 abbrev pub IsOfFault : {T : Type 0} → InfoFault → Result T RunFault → Type 0
 IsOfFault fault (Ok value) = ⊥
-IsOfFault fault (Err (Options word option)) = ⊥
+IsOfFault fault (Err (Words word option)) = ⊥
 IsOfFault fault (Err (Info told)) = told ≡ fault
 IsOfFault fault (Err InfoRead) = Unit {0}
 IsOfFault fault (Err (Write which)) = ⊥
@@ -69,7 +84,7 @@ IsOfFault fault (Err OutOfMemory) = Unit {0}
 -- an answer where the bytes have items
 abbrev pub IsOfItems : {T : Type 0} → Result T RunFault → Type 0
 IsOfItems (Ok value) = Unit {0}
-IsOfItems (Err (Options word option)) = ⊥
+IsOfItems (Err (Words word option)) = ⊥
 IsOfItems (Err (Info told)) = ⊥
 IsOfItems (Err InfoRead) = Unit {0}
 IsOfItems (Err (Write which)) = Unit {0}
@@ -77,17 +92,19 @@ IsOfItems (Err OutOfMemory) = Unit {0}
 
 -- A fault that is answered is that of the file, and one that the file has is answered, unless the read failed or memory ran out.
 pub record IsExact (words : List (List ℕ)) (told : Option File) (result : Result Report RunFault) : Type 0 where
-  pub info : (fault : InfoFault) → result ≡ Err (Info fault) → OfFile words told (λ command bytes. HaveFault bytes fault)
-  pub faults : (command : Command) → Asks words command →
+  pub info : (fault : InfoFault) → result ≡ Err (Info fault) → OfFaultyFile words told fault
+  pub faults : (options : Options) → Asks words options →
       IfSome told (λ file. (fault : InfoFault) → HaveFault file.bytes fault → IsOfFault fault result)
-  pub items : (command : Command) → Asks words command →
+  pub items : (options : Options) → Asks words options →
       IfSome told (λ file. (items : List PlainItem) → HaveItems file.bytes items → IsOfItems result)
 
 -- What was written is a front of the lines of the entries, in their order.
 pub record SendsFront (words : List (List ℕ)) (told : Option File) (out out_now err err_now : Option (List ℕ)) : Type 0 where
+  pub options : Options
+  pub asks : Asks words options
   pub entries : List Entry
-  pub are_entries : OfFile words told (λ command bytes. HaveEntries entries command.choice bytes)
-  pub front : SendsSome (lines_of 1 entries) out out_now err err_now
+  pub are_entries : OfFile options told (HaveEntries entries options.choice)
+  pub front : SendsSome (lines_of options 1 entries) out out_now err err_now
 
 -- Nothing was written but the line of a fault to standard error, whole unless that sink failed or was out of memory.
 pub record SendsLine (line : List ℕ) (out out_now err err_now : Option (List ℕ)) (faults faults_now refusals refusals_now : ℕ) : Type 0 where
@@ -97,8 +114,8 @@ pub record SendsLine (line : List ℕ) (out out_now err err_now : Option (List �
 
 -- What a fault leaves in the sinks: its own line; or, of a sink that failed and of want of memory, nothing but lines of entries.
 abbrev pub IsTold : (words : List (List ℕ)) (told : Option File) (out out_now err err_now : Option (List ℕ)) (faults faults_now refusals refusals_now : ℕ) → RunFault → Type 0
-IsTold words told out out_now err err_now faults faults_now refusals refusals_now (Options word fault) =
-    SendsLine (fault_line (Options word fault)) out out_now err err_now faults faults_now refusals refusals_now
+IsTold words told out out_now err err_now faults faults_now refusals refusals_now (Words word fault) =
+    SendsLine (fault_line (Words word fault)) out out_now err err_now faults faults_now refusals refusals_now
 IsTold words told out out_now err err_now faults faults_now refusals refusals_now (Info fault) =
     SendsLine (fault_line (Info fault)) out out_now err err_now faults faults_now refusals refusals_now
 IsTold words told out out_now err err_now faults faults_now refusals refusals_now InfoRead =
@@ -111,7 +128,7 @@ IsTold words told out out_now err err_now faults faults_now refusals refusals_no
 -- how far the source was read: to its end, or, of information that has a fault, to one byte more than may be read
 abbrev pub IsRead : Option File → Option (List ℕ) → Result Report RunFault → Type 0
 IsRead told left (Ok report) = IfSome told (λ file. left ≡ Some [])
-IsRead told left (Err (Options word option)) = Unit {0}
+IsRead told left (Err (Words word option)) = Unit {0}
 IsRead told left (Err (Info fault)) = IfSome told (λ file. left ≡ Some (drop (most_bytes + 1) file.bytes))
 IsRead told left (Err InfoRead) = Unit {0}
 IsRead told left (Err (Write which)) = Unit {0}
@@ -122,7 +139,7 @@ pub record SourceFails (words : List (List ℕ)) (told : Option File) (is_steady
   pub later : faults ≤ faults_now
   pub rose : IsErrOf result InfoRead → Rose faults faults_now
   pub steady : IsErrOf result InfoRead → is_steady ≡ true →
-      (command : Command) → Asks words command → IfSome told (λ file. file.name ≢ command.file)
+      (options : Options) → Asks words options → IfSome told (λ file. file.name ≢ options.info)
 
 -- A sink is said to have failed only where it has, and a steady one never.
 pub record SinkFails {T : Type 0} (which : Which) (is_steady : Bool) (faults faults_now : ℕ) (result : Result T RunFault) : Type 0 where
@@ -132,7 +149,7 @@ pub record SinkFails {T : Type 0} (which : Which) (is_steady : Bool) (faults fau
 
 -- a sink failed, or memory ran out
 abbrev pub IsSinkFault : RunFault → Type 0
-IsSinkFault (Options word fault) = ⊥
+IsSinkFault (Words word fault) = ⊥
 IsSinkFault (Info fault) = ⊥
 IsSinkFault InfoRead = ⊥
 IsSinkFault (Write which) = Unit {0}
@@ -140,7 +157,7 @@ IsSinkFault OutOfMemory = Unit {0}
 
 -- the bytes have this fault, or memory ran out
 abbrev pub IsFaultOfBytes : List ℕ → RunFault → Type 0
-IsFaultOfBytes bytes (Options word fault) = ⊥
+IsFaultOfBytes bytes (Words word fault) = ⊥
 IsFaultOfBytes bytes (Info fault) = HaveFault bytes fault
 IsFaultOfBytes bytes InfoRead = ⊥
 IsFaultOfBytes bytes (Write which) = ⊥
@@ -154,7 +171,7 @@ pub record HasEntries (entries : List Entry) (choice : Option (List ℕ)) (tree 
 
 -- the tree has this fault, or memory ran out
 abbrev pub IsFaultOfTree : Plain → RunFault → Type 0
-IsFaultOfTree tree (Options word fault) = ⊥
+IsFaultOfTree tree (Words word fault) = ⊥
 IsFaultOfTree tree (Info (Tree fault)) = ⊥
 IsFaultOfTree tree (Info (Item fault)) = items_of tree ≡ Err fault
 IsFaultOfTree tree InfoRead = ⊥
@@ -169,7 +186,7 @@ pub record IsExactOf {T : Type 0} (bytes : List ℕ) (result : Result T RunFault
 
 -- What an answer leaves in the sinks before a fault's own line: nothing, or a front of the lines of entries.
 abbrev pub IsUntold : (words : List (List ℕ)) (told : Option File) (out out_now err err_now : Option (List ℕ)) → RunFault → Type 0
-IsUntold words told out out_now err err_now (Options word fault) = Sends [] out out_now err err_now
+IsUntold words told out out_now err err_now (Words word fault) = Sends [] out out_now err err_now
 IsUntold words told out out_now err err_now (Info fault) = Sends [] out out_now err err_now
 IsUntold words told out out_now err err_now InfoRead = Sends [] out out_now err err_now
 IsUntold words told out out_now err err_now (Write which) = SendsFront words told out out_now err err_now

@@ -1,47 +1,29 @@
--- The words that are built: `--load-info-json FILE --print filename`, or these and `-f ID` with an ID of decimal digits.
-use Rattle.std.specs.Prelude.{◌≡◌, ◌≢◌, ℕ, ◌+◌, ◌<◌, ◌≤◌, List, [], ◌∷◌, ◌++◌, length, take, Option, Some, None, codes, IsTrue}
-use Rattle.std.specs.Char.{is_ascii_digit}
-use Rattle.std.specs.List.{list_all}
+-- What words ask for: the fault of the first word that has one, or the options that they set.
+use Rattle.std.specs.Prelude.{◌≡◌, ℕ, ◌-◌, List, length, Result, Ok}
+use Rattle.std.specs.Option.{option_or}
+use Rattle.ytdl_core.specs.declared.options.Options.{Options}
+use Rattle.ytdl_core.specs.declared.settings.Settings.{Settings}
+use Rattle.ytdl_core.specs.declared.words_fault.WordsFault.{WordsFault}
+use Rattle.ytdl_core.specs.Uses.{Reading, reading}
+use Rattle.ytdl_core.specs.Settings.{first_fault, settings_of, over, ended, unless_fault}
 
--- what words ask for: a file, and the id of a format where one is chosen
-pub record Command : Type 0 where
-  pub file : List ℕ
-  pub choice : Option (List ℕ)
+-- the first fault of what so many words read as, or their options
+abbrev pub answer_of : ℕ → Reading → Result Options WordsFault
+answer_of total read = unless_fault (option_or (first_fault read.uses) read.fault) (ended total (settings_of read.uses))
 
--- the words that choose a format
-abbrev pub choice_words : Option (List ℕ) → List (List ℕ)
-choice_words None = []
-choice_words (Some id) = codes "-f" ∷ id ∷ []
+-- what all the words ask for
+unfoldable pub words_of : List (List ℕ) → Result Options WordsFault
+words_of words = answer_of (length words) (reading 0 words)
 
--- the words of a command
-abbrev pub words_of : Command → List (List ℕ)
-words_of command = codes "--load-info-json" ∷ command.file ∷ codes "--print" ∷ codes "filename" ∷ choice_words command.choice
+-- the words ask for these options
+abbrev pub Asks : List (List ℕ) → Options → Type 0
+Asks words options = words_of words ≡ Ok options
 
--- one decimal digit or more, and nothing else
-pub record IsDigits (id : List ℕ) : Type 0 where
-  pub some : id ≢ []
-  pub digits : IsTrue (list_all is_ascii_digit id)
+-- the answer of what so many words read as, where earlier ones have set something already
+abbrev pub continued : Settings → ℕ → Reading → Result Options WordsFault
+continued early total read =
+    unless_fault (option_or (first_fault read.uses) read.fault) (ended total (over (settings_of read.uses) early))
 
--- no choice, or that of an id of digits
-abbrev pub IsBuilt : Option (List ℕ) → Type 0
-IsBuilt None = Unit {0}
-IsBuilt (Some id) = IsDigits id
-
--- the words ask for this command, which is built
-pub record Asks (words : List (List ℕ)) (command : Command) : Type 0 where
-  pub are : words ≡ words_of command
-  pub built : IsBuilt command.choice
-
--- the words are the first ones of a command that is built
-pub record Begins (words : List (List ℕ)) : Type 0 where
-  pub rest : List (List ℕ)
-  pub command : Command
-  pub asks : Asks (words ++ rest) command
-
--- The words ask for no command, and this is the place of the first word with which they no longer begin one,
--- or their number where they only end too early.
-pub record DepartsAt (words : List (List ℕ)) (place : ℕ) : Type 0 where
-  pub none : (command : Command) → Asks words command → ⊥
-  pub within : place ≤ length words
-  pub before : Begins (take place words)
-  pub here : place < length words → Begins (take (place + 1) words) → ⊥
+-- the answer of so many words of which these are the last, where those before have set something already
+unfoldable pub rest_of : Settings → ℕ → List (List ℕ) → Result Options WordsFault
+rest_of early total words = continued early total (reading (total - length words) words)

@@ -1,22 +1,20 @@
 ghost use Rattle.std.specs.Prelude.{◌≡◌, ◌↔◌, ◌≤◌, ℕ, false, Err, IfOk, IfErr};
-ghost use Rattle.ytdl_core.specs.declared.run_fault.OptionFault.TheVariants as option;
-ghost use Rattle.ytdl_core.specs.declared.run_fault.RunFault.TheVariants as fault;
 ghost use Rattle.ytdl_core.specs.declared.run_fault.Which.TheVariants as which;
 ghost use Rattle.std.specs.Option.{option_copied};
 ghost use Rattle.info_tree.specs.Plain.{plain};
 ghost use Rattle.ytdl_core.specs.Lines.{fault_line, TellsLine};
-ghost use Rattle.ytdl_core.specs.Words.{DepartsAt};
-ghost use Rattle.ytdl_core.specs.Run.{HasEntries, HaveEntries, IsExact, IsExactOf, IsFaultOfTree, IsRead, IsReported, IsTold, IsUntold, SinkFails, SourceFails};
+ghost use Rattle.ytdl_core.specs.Run.{HasEntries, HaveEntries, IsExact, IsExactOf, IsFaultOfTree, IsOfWords, IsRead, IsReported, IsTold, IsUntold, SinkFails, SourceFails};
 
 use crate::entry::{Entry, entries};
 use crate::fault_line::fault_line;
 use crate::lines::pieces;
 use crate::reading::read_file;
 use crate::report::{Report, report_of};
-use crate::run_fault::{OptionFault, RunFault};
+use crate::run_fault::RunFault;
 use crate::sink::Sink;
 use crate::source::InfoSource;
-use crate::words::read_command;
+use crate::words::read_words;
+use crate::words_fault::WordsFault;
 use crate::writing::write;
 use info_item::read_items;
 use info_tree::{Tree, read_tree};
@@ -35,9 +33,8 @@ pub fn run<I: InfoSource, O: Sink, E: Sink>(
 ) -> Result<Report, RunFault>
     requires { I.is_open info.old ≡ false }
 
-    // Which word departs from what is built; then no object is touched but for the fault's line.
-    ensures words { (place : ℕ) →
-        (result ≡ Err (fault.Options place option.NotBuilt)) ↔ DepartsAt words.now.items place }
+    // Which word is at fault; then no object is touched but for the fault's line.
+    ensures words { IsOfWords words.now.items result }
 
     // An answer is that of the file's bytes: the ends of its items' entries, or its fault.
     ensures report { IfOk result (IsReported words.now.items (I.file info.old)
@@ -79,21 +76,20 @@ fn tell<E: Sink>(fault: RunFault, err: &mut E)
 /// What the words ask for, without the line of a fault.
 fn answer<I: InfoSource, O: Sink, E: Sink>(
     alloc: Global,
-    words: &[Text],
+    words: &Vec<Text>,
     info: &mut I,
     out: &mut O,
     err: &mut E,
 ) -> Result<Report, RunFault>
     requires { I.is_open info.old ≡ false }
-    ensures words { (place : ℕ) →
-        (result ≡ Err (fault.Options place option.NotBuilt)) ↔ DepartsAt words.now place }
-    ensures report { IfOk result (IsReported words.now (I.file info.old)
+    ensures words { IsOfWords words.now.items result }
+    ensures report { IfOk result (IsReported words.now.items (I.file info.old)
         (O.written out.old) (O.written out.new) (E.written err.old) (E.written err.new)) }
-    ensures exact { IsExact words.now (I.file info.old) result }
-    ensures untold { IfErr result (IsUntold words.now (I.file info.old)
+    ensures exact { IsExact words.now.items (I.file info.old) result }
+    ensures untold { IfErr result (IsUntold words.now.items (I.file info.old)
         (O.written out.old) (O.written out.new) (E.written err.old) (E.written err.new)) }
     ensures read { IsRead (I.file info.old) (I.left info.new) result }
-    ensures source { SourceFails words.now (I.file info.old) (I.is_steady info.old)
+    ensures source { SourceFails words.now.items (I.file info.old) (I.is_steady info.old)
         (I.faults info.old) (I.faults info.new) result }
     ensures out { SinkFails which.Out (O.is_steady out.old)
         (O.faults out.old) (O.faults out.new) result }
@@ -101,19 +97,15 @@ fn answer<I: InfoSource, O: Sink, E: Sink>(
         (E.faults err.old) (E.faults err.new) result }
     ensures later { E.refusals err.old ≤ E.refusals err.new }
 {
-    let command = match read_command(words) {
-        Ok(command) => command,
-        Err(word) => {
-            return Err(RunFault::Options {
-                word,
-                fault: OptionFault::NotBuilt,
-            });
-        }
+    let options = match read_words(alloc, words) {
+        Ok(options) => options,
+        Err(WordsFault::Bad { word, fault }) => return Err(RunFault::Options { word, fault }),
+        Err(WordsFault::OutOfMemory) => return Err(RunFault::OutOfMemory),
     };
-    let bytes = read_file(alloc, info, command.file)?;
-    let entries = read_entries(alloc, command.choice, &bytes)?;
+    let bytes = read_file(alloc, info, options.info.as_str())?;
+    let entries = read_entries(alloc, options.choice(), &bytes)?;
     let report = report_of(alloc, &entries)?;
-    let pieces = pieces(alloc, &entries)?;
+    let pieces = pieces(alloc, &options, &entries)?;
     write(&pieces, out, err)?;
     Ok(report)
 }

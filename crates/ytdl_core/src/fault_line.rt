@@ -1,5 +1,5 @@
 ghost use Rattle.std.specs.Prelude.{◌≡◌, ◌++◌, ◌+◌, ◌≤◌, codes, decimal, length};
-ghost use Rattle.ytdl_core.specs.Lines.{fault_line};
+ghost use Rattle.ytdl_core.specs.Lines.{fault_line, option_text};
 ghost use Rattle.ytdl_core.specs.declared.run_fault.InfoFault.TheVariants as info;
 ghost use Rattle.ytdl_core.specs.declared.run_fault.RunFault.TheVariants as fault;
 
@@ -30,8 +30,28 @@ pub fn fault_line(fault: RunFault) -> Line
 fn option_line(word: usize, option: OptionFault) -> Line
     ensures { result.bytes ≡ fault_line (fault.Options word option) }
 {
+    let mut digits = Buffer::new();
+    let mut line = Line::new();
+    line.push_str("ERROR: word ");
+    line.push_str(digits.format(word as u128 + 1));
+    line.push_str(": ");
+    line.push_str(option_text(option));
+    line.push_str("\n");
+    line
+}
+
+fn option_text(option: OptionFault) -> &'static str
+    ensures text { result.now ≡ option_text option }
+    ensures short { length result.now ≤ 20 }
+{
     match option {
-        OptionFault::NotBuilt => numbered("ERROR: word ", word as u128 + 1, ": not built\n"),
+        OptionFault::Unknown => "unknown option",
+        OptionFault::NeedsValue => "value missing",
+        OptionFault::BadValue => "bad value",
+        OptionFault::NoInfo => "no --load-info-json",
+        OptionFault::Extra => "unexpected word",
+        OptionFault::TakesNone => "takes no value",
+        OptionFault::NotBuilt => "not built",
     }
 }
 

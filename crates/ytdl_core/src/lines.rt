@@ -1,9 +1,10 @@
 ghost use Rattle.std.specs.Prelude.{◌≡◌, ◌+◌, ◌++◌, ◌<◌, ◌^◌, IfOk, OnOk, codes};
 ghost use Rattle.std.specs.String.{string_bytes};
-ghost use Rattle.ytdl_core.specs.Lines.{line_of, lines_of, all_to};
+ghost use Rattle.ytdl_core.specs.Lines.{line_of, lines_of, name_line, name_lines, all_to};
 ghost use Rattle.ytdl_core.specs.Pieces.{script_of};
 
 use crate::entry::Entry;
+use crate::options::Options;
 use crate::run_fault::Which;
 use std::alloc::{AllocError, Global};
 use text_base::OutOfMemory;
@@ -16,12 +17,16 @@ pub struct Piece {
 }
 
 /// The lines of entries, in as few pieces as keep their order.
-pub fn pieces(alloc: Global, entries: &[Entry]) -> Result<Vec<Piece>, OutOfMemory>
-    ensures { IfOk result (λ pieces. script_of pieces.items ≡ lines_of 1 entries.now) }
+pub fn pieces(
+    alloc: Global,
+    options: &Options,
+    entries: &[Entry],
+) -> Result<Vec<Piece>, OutOfMemory>
+    ensures { IfOk result (λ pieces. script_of pieces.items ≡ lines_of options.now 1 entries.now) }
 {
     let mut pieces = Vec::new(alloc);
     for (place, entry) in entries.iter().enumerate() {
-        let line = line(alloc, place + 1, entry)?;
+        let line = line(alloc, options, place + 1, entry)?;
         add(&mut pieces, line)?;
     }
     Ok(pieces)
@@ -46,14 +51,20 @@ fn add(pieces: &mut Vec<Piece>, line: Piece) -> Result<(), OutOfMemory>
     Ok(())
 }
 
-/// The line of an entry, by its item's number.
-fn line(alloc: Global, number: usize, entry: &Entry) -> Result<Piece, OutOfMemory>
-    ensures { IfOk result (λ piece. all_to piece.which (string_bytes piece.bytes) ≡ line_of number entry.now) }
+/// The lines of an entry, by its item's number.
+fn line(
+    alloc: Global,
+    options: &Options,
+    number: usize,
+    entry: &Entry,
+) -> Result<Piece, OutOfMemory>
+    ensures { IfOk result (λ piece. all_to piece.which (string_bytes piece.bytes) ≡
+        line_of options.now number entry.now) }
 {
     match entry {
         Entry::Shown { stem, extension } => Ok(Piece {
             which: Which::Out,
-            bytes: name_line(alloc, stem.as_str(), extension.as_str())?,
+            bytes: name_lines(alloc, options, stem.as_str(), extension.as_str())?,
         }),
         Entry::NoFormat => Ok(Piece {
             which: Which::Err,
@@ -66,8 +77,32 @@ fn line(alloc: Global, number: usize, entry: &Entry) -> Result<Piece, OutOfMemor
     }
 }
 
-fn name_line(alloc: Global, stem: &str, extension: &str) -> Result<String, AllocError>
-    ensures { IfOk result (λ line. string_bytes line ≡ stem.now ++ codes "." ++ extension.now ++ codes "\n") }
+/// A name by itself for each print, and as simulated where the run is not quiet.
+fn name_lines(
+    alloc: Global,
+    options: &Options,
+    stem: &str,
+    extension: &str,
+) -> Result<String, AllocError>
+    ensures { IfOk result (λ lines. string_bytes lines ≡
+        name_lines options.now (name_line stem.now extension.now)) }
 {
-    format!(in alloc; "{stem}.{extension}\n")
+    let mut lines = String::new(alloc);
+    for _print in 0..options.prints {
+        push_name(&mut lines, stem, extension)?;
+    }
+    if !options.quiet {
+        lines.push_str("[simulate] ")?;
+        push_name(&mut lines, stem, extension)?;
+    }
+    Ok(lines)
+}
+
+fn push_name(lines: &mut String, stem: &str, extension: &str) -> Result<(), AllocError>
+    ensures { OnOk result (string_bytes lines.new ≡ string_bytes lines.old ++ name_line stem.now extension.now) }
+{
+    lines.push_str(stem)?;
+    lines.push_str(".")?;
+    lines.push_str(extension)?;
+    lines.push_str("\n")
 }

@@ -6,6 +6,17 @@ use text_base::OutOfMemory;
 /// Why a word of the command line is refused.
 #[derive(Clone, Copy, Debug, PartialEq, Eq)]
 pub enum OptionFault {
+    /// No option has this name, or letters stand behind the letter of a flag.
+    Unknown,
+    /// The words end where the option's value should stand.
+    NeedsValue,
+    BadValue,
+    /// No word names the file of information.
+    NoInfo,
+    /// It is no option and no value of one.
+    Extra,
+    /// A value is joined to a flag.
+    TakesNone,
     NotBuilt,
 }
 
@@ -26,7 +37,7 @@ pub enum Which {
 /// Why there is no report.
 #[derive(Clone, Copy, Debug, PartialEq, Eq)]
 pub enum RunFault {
-    /// The first word that departs from what is built. Words count from 0, and the number of words is where they end too early.
+    /// The first word at fault. Words count from 0, and the number of words is where they end too early.
     Options { word: usize, fault: OptionFault },
     /// The information has this fault.
     Info { fault: InfoFault },

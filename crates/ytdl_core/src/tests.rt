@@ -72,22 +72,44 @@ fn names_are_printed(rt: HostRuntime) -> Result<(), Fail> {
 }
 
 #[test]
+fn simulated_names_are_told(rt: HostRuntime) -> Result<(), Fail> {
+    let words = ["--load-info-json", "i.json", "-s"];
+    let told = "[simulate] yt-dlp test video [BaW_jenozKc].mp4\n";
+    answers(&rt, rt.alloc(), &words, ONE, (told, "", 0))?;
+    let words = ["--load-info-json", "i.json", "-s", "-q"];
+    answers(&rt, rt.alloc(), &words, ONE, ("", "", 0))?;
+    let print = "--print=filename";
+    let words = ["--load-info-json", "i.json", print, print, "--no-quiet"];
+    let name = "yt-dlp test video [BaW_jenozKc].mp4\n";
+    let all = format!(in rt.alloc(); "{name}{name}{told}")?;
+    answers(&rt, rt.alloc(), &words, ONE, (all.as_str(), "", 0))
+}
+
+#[test]
 fn faults_have_their_places(rt: HostRuntime) -> Result<(), Fail> {
     let alone = ["--load-info-json"];
+    let none: [&str; 0] = [];
+    answers(
+        &rt,
+        rt.alloc(),
+        &none,
+        ONE,
+        ("", "ERROR: word 1: no --load-info-json\n", 2),
+    )?;
     let letters = [NAME[0], NAME[1], NAME[2], NAME[3], "-f", "b"];
     answers(
         &rt,
         rt.alloc(),
         &alone,
         ONE,
-        ("", "ERROR: word 2: not built\n", 2),
+        ("", "ERROR: word 1: value missing\n", 2),
     )?;
     answers(
         &rt,
         rt.alloc(),
         &letters,
         ONE,
-        ("", "ERROR: word 6: not built\n", 2),
+        ("", "ERROR: word 5: not built\n", 2),
     )?;
     answers(
         &rt,

@@ -1,76 +1,66 @@
-ghost use Rattle.std.specs.Prelude.{◌≡◌, ◌≢◌, ℕ, List, [], ◌∷◌, IsTrue, ◌↔◌, IfOk, IfErr, MatchResult};
-ghost use Rattle.std.specs.Char.{is_ascii_digit};
-ghost use Rattle.std.specs.List.{list_all};
-ghost use Rattle.std.specs.Option.{option_copied};
-ghost use Rattle.ytdl_core.specs.Words.{Asks, DepartsAt, IsDigits};
+ghost use Rattle.std.specs.Prelude.{◌≡◌, ◌⊎◌, ℕ, ◌+◌, ◌≤◌, ◌<◌, ◌∷◌, length, Err, IfOk, IfErr};
+ghost use Rattle.ytdl_core.specs.declared.words_fault.WordsFault.TheVariants as fault;
+ghost use Rattle.ytdl_core.specs.Words.{words_of, rest_of};
 
+use crate::form::{Form, form_of};
+use crate::options::Options;
+use crate::run_fault::OptionFault;
+use crate::settings::Settings;
+use crate::words_fault::WordsFault;
+use std::alloc::Global;
 use text_base::Text;
 
-/// What the words ask for: a file, and the id of a format where one is chosen.
-#[derive(Clone, Copy)]
-pub struct Command<'a> {
-    pub file: &'a str,
-    pub choice: Option<&'a str>,
+/// What the words ask for, or the first word at fault. Want of memory may come at any time.
+pub fn read_words(alloc: Global, words: &Vec<Text>) -> Result<Options, WordsFault>
+    ensures { (result ≡ words_of words.now.items) ⊎ (result ≡ Err fault.OutOfMemory) }
+{
+    let mut settings = Settings::new();
+    let mut rest = words.as_slice();
+    'words: while let Some((word, behind)) = rest.split_first() {
+        rest = read_use(alloc, &mut settings, words.len(), word.as_str(), behind)?;
+    }
+    settings.options(words.len())
 }
 
-/// The command that the words ask for, or the place of the first word that departs from what is built.
-pub fn read_command(words: &[Text]) -> Result<Command<'_>, usize>
-    ensures asks { IfOk result (λ command. Asks words.now
-        (record { file = command.file.now; choice = option_copied command.choice })) }
-    ensures departs { IfErr result (DepartsAt words.now) }
+/// Reads a word, which stands before the last ones of so many, and what belongs to it. Answers the words behind that.
+fn read_use<'a>(
+    alloc: Global,
+    settings: &mut Settings,
+    total: usize,
+    word: &str,
+    behind: &'a [Text],
+) -> Result<&'a [Text], WordsFault>
+    requires { settings.old.prints + length behind.now < total }
+    ensures prints { IfOk result (λ rest. settings.new.prints + length rest.now ≤ total) }
+    ensures less { IfOk result (λ rest. length rest.now ≤ length behind.now) }
+    ensures rest { IfOk result (λ rest. rest_of settings.old total (word.now ∷ behind.now) ≡
+        rest_of settings.new total rest.now) }
+    ensures fault { IfErr result (λ e. (e ≡ fault.OutOfMemory) ⊎
+        (rest_of settings.old total (word.now ∷ behind.now) ≡ Err e)) }
 {
-    let rest = expect_word(words, 0, "--load-info-json")?;
-    let (file, rest) = next_word(rest, 1)?;
-    let rest = expect_word(rest, 2, "--print")?;
-    let rest = expect_word(rest, 3, "filename")?;
-    if rest.is_empty() {
-        return Ok(Command { file, choice: None });
+    let place = total - behind.len() - 1;
+    match form_of(word) {
+        Form::Turns(flag) => settings.turn(flag),
+        Form::Gives(option, value) => settings.give(alloc, place, option, value)?,
+        Form::Asks(option) => {
+            let Some((value, behind)) = behind.split_first() else {
+                return Err(bad(place, OptionFault::NeedsValue));
+            };
+            settings.give(alloc, place, option, value.as_str())?;
+            return Ok(behind);
+        }
+        Form::Closes if !behind.is_empty() => return Err(bad(place + 1, OptionFault::Extra)),
+        Form::Closes => {}
+        Form::Faulty(fault) => return Err(bad(place, fault)),
     }
-    let rest = expect_word(rest, 4, "-f")?;
-    let (id, rest) = next_word(rest, 5)?;
-    if !is_digits(id) {
-        return Err(5);
-    }
-    if !rest.is_empty() {
-        return Err(6);
-    }
-    Ok(Command {
-        file,
-        choice: Some(id),
-    })
+    Ok(behind)
 }
 
-/// The words behind this one, or the place where it does not stand.
-fn expect_word<'a>(words: &'a [Text], place: usize, text: &str) -> Result<&'a [Text], usize>
-    ensures { MatchResult result (λ rest. words.now ≡ text.now ∷ rest.now)
-        (λ at. (at ≡ place) × ((word : List ℕ) (rest : List (List ℕ)) →
-        words.now ≡ word ∷ rest → word ≢ text.now)) }
+fn bad(word: usize, option: OptionFault) -> WordsFault
+    ensures { result ≡ fault.Bad word option }
 {
-    match words.split_first() {
-        Some((word, rest)) if word.as_str() == text => Ok(rest),
-        _ => Err(place),
+    WordsFault::Bad {
+        word,
+        fault: option,
     }
-}
-
-/// The next word and the words behind it, or the place where none stands.
-fn next_word(words: &[Text], place: usize) -> Result<(&str, &[Text]), usize>
-    ensures { MatchResult result (λ next. words.now ≡ next.0.now ∷ next.1.now)
-        (λ at. (at ≡ place) × (words.now ≡ [])) }
-{
-    match words {
-        [word, rest @ ..] => Ok((word.as_str(), rest)),
-        [] => Err(place),
-    }
-}
-
-fn is_digits(text: &str) -> bool
-    ensures { IsTrue result ↔ IsDigits text.now }
-{
-    !text.is_empty() && all_digits(text.as_bytes())
-}
-
-fn all_digits(bytes: &[u8]) -> bool
-    ensures { result ≡ list_all is_ascii_digit bytes.now }
-{
-    bytes.iter().all(|b| b.is_ascii_digit())
 }

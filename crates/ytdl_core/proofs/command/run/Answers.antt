@@ -1,10 +1,5 @@
-use Rattle.std.proofs.Common.{◌≡◌, List, ℕ}
-use Rattle.ytdl_core.specs.Run.{IsUntold}
 use Rattle.ytdl_core.proofs.ToldLemmas.{all_told}
 use Rattle.ytdl_core.proofs.command.run.Goals as goal
-
-pub returns-in-Err-clause-words : goal.returns-in-Err-clause-words
-returns-in-Err-clause-words g c = rw c.deref.ensures.value at c.in-Err.ensures.words
 
 pub returns-in-Err-clause-told : goal.returns-in-Err-clause-told
 returns-in-Err-clause-told g c =
@@ -13,4 +8,4 @@ returns-in-Err-clause-told g c =
     (g.E.Sink.faults c.args.err.now) (g.E.Sink.faults c.answer-answer.new.err) (g.E.Sink.faults c.tell.new.err)
     (g.E.Sink.refusals c.args.err.now) (g.E.Sink.refusals c.answer-answer.new.err) (g.E.Sink.refusals c.tell.new.err)
     c.in-Err.ensures.err.later c.in-Err.ensures.later c.in-Err.fault
-    (rw c.deref.ensures.value at c.in-Err.ensures.untold) c.tell.ensures.line
+    c.in-Err.ensures.untold c.tell.ensures.line

@@ -4,4 +4,4 @@ use Rattle.ytdl_core.specs.Pieces.{script_of}
 use Rattle.ytdl_core.proofs.lines.pieces.Given as goal
 
 abbrev pub invariant-loop-place : goal.invariant-loop-place
-invariant-loop-place l = lines_of 1 l.entries ≡ script_of l.pieces.items ++ lines_of (l.place + 1) (drop l.place l.entries)
+invariant-loop-place l = lines_of l.options 1 l.entries ≡ script_of l.pieces.items ++ lines_of l.options (l.place + 1) (drop l.place l.entries)

@@ -1,0 +1,11 @@
+-- A form of the program as the definitions see it.
+use Rattle.ytdl_core.specs.declared.form.Form.{Form}
+use Rattle.ytdl_core.specs.declared.form.Form.TheVariants.{Turns, Gives, Asks, Closes, Faulty}
+use Rattle.ytdl_core.specs.Form.{Form as Plain, turns, gives, asks, closes, faulty}
+
+abbrev pub plain_form : Form → Plain
+plain_form (Turns flag) = turns flag
+plain_form (Gives option value) = gives option value.now
+plain_form (Asks option) = asks option
+plain_form Closes = closes
+plain_form (Faulty fault) = faulty fault

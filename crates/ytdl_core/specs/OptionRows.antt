@@ -1,0 +1,16 @@
+-- The rows of the program as the definitions see them.
+use Rattle.std.specs.Prelude.{ℕ, List, Bool, map}
+use Rattle.std.specs.List.{list_any}
+use Rattle.std.specs.Str.{bytes_eq}
+use Rattle.ytdl_core.specs.declared.option_table.OptionRow.{OptionRow}
+use Rattle.ytdl_core.specs.OptionTable.{Row}
+
+abbrev pub plain_row : OptionRow → Row
+plain_row row = record { names = map (λ name. name.now) row.names.now; meaning = row.meaning }
+
+abbrev pub plain_rows : List OptionRow → List Row
+plain_rows = map plain_row
+
+-- whether a row has this name
+abbrev pub has_name : List ℕ → OptionRow → Bool
+has_name name row = list_any (λ known. bytes_eq known.now name) row.names.now

@@ -1,0 +1,213 @@
+use super::*;
+use std::alloc::Global;
+use std::process::Abort;
+use std::test::Fail;
+use text_base::{OutOfMemory, Text};
+
+const INFO: &str = "--load-info-json";
+
+fn texts(alloc: Global, words: &[&str]) -> Result<Vec<Text>, OutOfMemory> {
+    let mut texts = Vec::new(alloc);
+    for word in words {
+        texts.push(Text::new(alloc, *word)?)?;
+    }
+    Ok(texts)
+}
+
+/// These words are refused at this place.
+fn refuses(
+    rt: &impl Abort,
+    alloc: Global,
+    words: &[&str],
+    word: usize,
+    fault: OptionFault,
+) -> Result<(), Fail> {
+    let texts = texts(alloc, words)?;
+    let end = read_words(alloc, &texts).err();
+    assert_eq!(rt; end, Some(WordsFault::Bad { word, fault }), "{words:?}");
+    Ok(())
+}
+
+/// These words ask for this file and format, so many prints, and a quiet run or a loud one.
+fn asks(
+    rt: &impl Abort,
+    alloc: Global,
+    words: &[&str],
+    file: &str,
+    wanted: (Option<&str>, usize, bool),
+) -> Result<(), Fail> {
+    let texts = texts(alloc, words)?;
+    let options = read_words(alloc, &texts)?;
+    assert_eq!(rt; options.info.as_str(), file, "{words:?}");
+    assert_eq!(rt;
+        options.choice().unwrap_or(""),
+        wanted.0.unwrap_or(""),
+        "{words:?}"
+    );
+    assert_eq!(rt; options.prints, wanted.1, "{words:?}");
+    assert_eq!(rt; options.quiet, wanted.2, "{words:?}");
+    assert_eq!(rt; options.simulate, true);
+    Ok(())
+}
+
+#[test]
+fn forms_of_words_are_refused(rt: HostRuntime) -> Result<(), Fail> {
+    let alloc = rt.alloc();
+    refuses(&rt, alloc, &[], 0, OptionFault::NoInfo)?;
+    refuses(&rt, alloc, &[INFO], 0, OptionFault::NeedsValue)?;
+    refuses(&rt, alloc, &["-s", "-f"], 1, OptionFault::NeedsValue)?;
+    refuses(&rt, alloc, &["--simulat"], 0, OptionFault::Unknown)?;
+    refuses(&rt, alloc, &["--simulates"], 0, OptionFault::Unknown)?;
+    refuses(&rt, alloc, &["-s", "-Z"], 1, OptionFault::Unknown)?;
+    refuses(&rt, alloc, &["-é"], 0, OptionFault::Unknown)?;
+    refuses(&rt, alloc, &["-sq"], 0, OptionFault::Unknown)?;
+    refuses(&rt, alloc, &["-s=1"], 0, OptionFault::Unknown)?;
+    refuses(&rt, alloc, &["--=x"], 0, OptionFault::Unknown)?;
+    refuses(
+        &rt,
+        alloc,
+        &["--skip-unavailable-fragments"],
+        0,
+        OptionFault::Unknown,
+    )?;
+    refuses(&rt, alloc, &["--simulate=yes"], 0, OptionFault::TakesNone)?;
+    refuses(&rt, alloc, &["--no-quiet="], 0, OptionFault::TakesNone)?;
+    refuses(&rt, alloc, &["-"], 0, OptionFault::Extra)?;
+    refuses(&rt, alloc, &[""], 0, OptionFault::Extra)?;
+    refuses(&rt, alloc, &["a", "--bad"], 0, OptionFault::Extra)?;
+    refuses(&rt, alloc, &["--", "-s"], 1, OptionFault::Extra)?;
+    refuses(&rt, alloc, &["--"], 1, OptionFault::NoInfo)
+}
+
+#[test]
+fn values_are_refused(rt: HostRuntime) -> Result<(), Fail> {
+    let alloc = rt.alloc();
+    refuses(&rt, alloc, &["-s", INFO, ""], 1, OptionFault::BadValue)?;
+    refuses(&rt, alloc, &["--load-info-json="], 0, OptionFault::BadValue)?;
+    refuses(&rt, alloc, &[INFO, "i", "-f", ""], 2, OptionFault::BadValue)?;
+    refuses(
+        &rt,
+        alloc,
+        &[INFO, "i", "-f", "bestvideo"],
+        2,
+        OptionFault::NotBuilt,
+    )?;
+    refuses(&rt, alloc, &["-f22x", INFO, ""], 0, OptionFault::NotBuilt)?;
+    refuses(
+        &rt,
+        alloc,
+        &[INFO, "i", "--print", "title"],
+        2,
+        OptionFault::NotBuilt,
+    )?;
+    refuses(
+        &rt,
+        alloc,
+        &[INFO, "i", "--print="],
+        2,
+        OptionFault::NotBuilt,
+    )?;
+    refuses(&rt, alloc, &["-xyz"], 0, OptionFault::NotBuilt)?;
+    refuses(&rt, alloc, &["--exec"], 0, OptionFault::NotBuilt)?;
+    refuses(
+        &rt,
+        alloc,
+        &["--restrict-filenames=1"],
+        0,
+        OptionFault::NotBuilt,
+    )?;
+    refuses(&rt, alloc, &["--S-force"], 0, OptionFault::NotBuilt)?;
+    refuses(&rt, alloc, &["-s"], 1, OptionFault::NoInfo)?;
+    refuses(&rt, alloc, &[INFO, "i"], 2, OptionFault::NotBuilt)?;
+    refuses(&rt, alloc, &[INFO, "--print"], 2, OptionFault::NotBuilt)?;
+    refuses(
+        &rt,
+        alloc,
+        &[INFO, "i", "-s", "--no-simulate"],
+        4,
+        OptionFault::NotBuilt,
+    )?;
+    refuses(
+        &rt,
+        alloc,
+        &[INFO, "i", "--no-simulate", "--print", "filename"],
+        5,
+        OptionFault::NotBuilt,
+    )
+}
+
+#[test]
+fn words_set_options(rt: HostRuntime) -> Result<(), Fail> {
+    let alloc = rt.alloc();
+    let print = "--print=filename";
+    asks(
+        &rt,
+        alloc,
+        &[INFO, "i", "--print", "filename"],
+        "i",
+        (None, 1, true),
+    )?;
+    asks(
+        &rt,
+        alloc,
+        &["--load-info-json=a=b", "-s"],
+        "a=b",
+        (None, 0, false),
+    )?;
+    asks(
+        &rt,
+        alloc,
+        &[INFO, "--print", "--simulate"],
+        "--print",
+        (None, 0, false),
+    )?;
+    asks(
+        &rt,
+        alloc,
+        &[INFO, "--", "-s", "--"],
+        "--",
+        (None, 0, false),
+    )?;
+    asks(
+        &rt,
+        alloc,
+        &[print, print, INFO, "i", "--no-quiet"],
+        "i",
+        (None, 2, false),
+    )?;
+    asks(
+        &rt,
+        alloc,
+        &["-f", "22", INFO, "a", INFO, "b", "-s", "-f137"],
+        "b",
+        (Some("137"), 0, false),
+    )?;
+    asks(
+        &rt,
+        alloc,
+        &[INFO, "i", "--no-simulate", "-s"],
+        "i",
+        (None, 0, false),
+    )?;
+    asks(
+        &rt,
+        alloc,
+        &[INFO, "i", "-s", "--no-quiet", "-q"],
+        "i",
+        (None, 0, true),
+    )?;
+    asks(
+        &rt,
+        alloc,
+        &[INFO, "i", "-s", "-q", "--no-quiet", print],
+        "i",
+        (None, 1, false),
+    )?;
+    asks(
+        &rt,
+        alloc,
+        &[print, "--no-simulate", INFO, "i", "--simulate"],
+        "i",
+        (None, 1, true),
+    )
+}
