@@ -6,3 +6,4 @@ pub mod LineLemmas
 pub mod HeadLemmas
 pub mod GrowLemmas
 pub mod VerdictLemmas
+pub mod HonestLemmas

@@ -1,6 +1,5 @@
 -- A reply has one verdict.
-use Rattle.std.proofs.Common.{◌≡◌, ℕ, List, Option, refl, sym, ap, ◌∙◌}
-use Rattle.http_reply.specs.Heads.{HeadsEnd, Heads}
+use Rattle.std.proofs.Common.{◌≡◌, ℕ, List, Option, sym, ap, ◌∙◌}
 use Rattle.http_reply.proofs.HeadLemmas.{heads_unique}
 use Rattle.http_reply.specs.Verdict.{Verdict, IsVerdict, heads_verdict}
 

@@ -5,4 +5,5 @@ pub mod Fields
 pub mod Faults
 pub mod Verdict
 pub mod Truth
+pub mod Laws
 pub mod Heads

@@ -1,0 +1,11 @@
+pub mod WireLemmas
+pub mod SendLemmas
+pub mod HeadsLemmas
+pub mod TakingLemmas
+pub mod FollowLemmas
+pub mod BodyLemmas
+pub mod WindowLemmas
+pub mod LinesLemmas
+pub mod RequestLemmas
+pub mod AddressLemmas
+pub mod TryLemmas
