@@ -1,7 +1,8 @@
 -- The text that is printed for a tree is the text of that tree.
-use Rattle.std.proofs.Common.{◌≡◌, ℕ, ◌+◌, List, [], ◌∷◌, ◌++◌, take, refl, ap, subst, arith}
+use Rattle.std.proofs.Common.{◌≡◌, ℕ, ◌+◌, List, [], ◌∷◌, ◌++◌, take, refl, subst, arith}
 use Rattle.std.specs.Prelude.{Some, slice_get}
 use Rattle.std.specs.Str.{IsUtf8}
+use Rattle.std.proofs.lemmas.List.{append-nil}
 use Rattle.info_tree.specs.Tree.{Tree, trees_of, pairs_of}
 use Rattle.info_tree.specs.Token.{Token, Splits}
 use Rattle.info_tree.specs.Json.{Reads}
@@ -15,10 +16,6 @@ use Rattle.info_tree.proofs.TreeTokens.{tokens, are_value}
 use Rattle.info_tree.proofs.TreeLimits.{stays, opens, accepted}
 use Rattle.info_tree.proofs.Texts.{one_list}
 use Rattle.info_tree.proofs.TreeSplits.{tree_splits, first_spaces}
-
-append-nil : {A : Type 0} (l : List A) → l ++ [] ≡ l
-append-nil [] = refl
-append-nil (x ∷ xs) = ap (λ k. x ∷ k) (append-nil xs)
 
 module _ (style : Style) (t : Tree) (sound : IsSound t) (utf8 : IsUtf8 (printed style (first_line style.pretty) t)) where
   abbrev bytes : List ℕ

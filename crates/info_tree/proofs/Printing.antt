@@ -3,6 +3,7 @@ use Rattle.std.proofs.Common.{◌≡◌, ℕ, zero, suc, ◌+◌, List, [], ◌�
 use Rattle.std.specs.Prelude.{Option, Some, None, map, slice_get, ◌==◌, nat_lt, if◌then◌else◌, codes}
 use Rattle.std.specs.Str.{chars}
 use Rattle.std.proofs.lemmas.Bool.Decides.{nat_tests}
+use Rattle.std.proofs.lemmas.List.{append-nil}
 use Rattle.std.proofs.lemmas.Option.{none-some}
 use Rattle.std.proofs.lemmas.Str.{chars-nil}
 use Rattle.text_base.specs.Scan.{is_json_special}
@@ -10,10 +11,6 @@ use Rattle.info_tree.specs.Token.{byte, ArePieces}
 use Rattle.info_tree.specs.Tree.{Tree as Plain, list, mapping, trees_of, pairs_of}
 use Rattle.info_tree.specs.Printed.{printed, items, members, comma_text, deeper, quoted, escaped, all_by}
 use Rattle.info_tree.specs.declared.style.Style.{Style}
-
-append-nil : {A : Type 0} (l : List A) → l ++ [] ≡ l
-append-nil [] = refl
-append-nil (x ∷ xs) = ap (λ k. x ∷ k) (append-nil xs)
 
 some_is : {A : Type 0} {x y : A} → Some x ≡ Some y → x ≡ y
 some_is {x = x} e = ap (λ o. or_else x o) e

@@ -1,6 +1,5 @@
 -- The tokens that a tree is printed as open just as many levels as it has, and their numbers have values.
-use Rattle.std.proofs.Common.{◌≡◌, ℕ, ◌+◌, ◌-◌, ◌≤◌, List, [], ◌∷◌, subst, sym, arith, refl, Bool}
-use Rattle.std.specs.Prelude.{max}
+use Rattle.std.proofs.Common.{◌≡◌, ℕ, ◌+◌, ◌≤◌, List, ◌∷◌, subst, sym, arith, refl, Bool}
 use Rattle.info_tree.specs.Tree.{Tree, null, truth, number, text, list, mapping, Trees, no_trees, a_tree, Pairs, no_pairs, a_pair}
 use Rattle.info_tree.specs.Token.{Token, end_list, end_map}
 use Rattle.info_tree.specs.Levels.{level, StayWithin}

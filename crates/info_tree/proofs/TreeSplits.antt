@@ -66,18 +66,16 @@ number_stays (b ∷ s) rest some e =
 
 number_splits : (n : Number) (rest : List ℕ) (ts : List Token) (r : List ℕ) → IsSpelled n → EndsNumber rest → Splits rest ts r → Splits (text_of n ++ rest) (numeral (text_of n) ∷ ts) r
 number_splits n rest ts r is ends s =
-    let some : 0 < length (text_of n) = number_text-some n is.1 in
-    (
+    let some : 0 < length (text_of n) = number_text-some n is.1 in (
       rest,
       subst (λ (l : List ℕ). BeginsWith l (numeral (text_of n)) rest) (sym (number_stays (text_of n) rest some is.0))
-      (record { spelled = refl; is_token = (some, number_length-append rest ends (text_of n) ∙ is.0) }),
+          (record { spelled = refl; is_token = (some, number_length-append rest ends (text_of n) ∙ is.0) }),
       s,
     )
 
 string_splits : (a : Bool) (t rest : List ℕ) (ts : List Token) (r : List ℕ) → IsUtf8 t → Splits rest ts r → Splits (quoted a t ++ rest) (string (inside_pieces a t) ∷ ts) r
 string_splits a t rest ts r u s =
-    let shows = inside_spells a t u in
-    (
+    let shows = inside_spells a t u in (
       rest,
       record { spelled = ap (λ l. 34 ∷ ((l ++ 34 ∷ []) ++ rest)) (sym shows.spelled); is_token = shows.are_pieces },
       s,
@@ -147,8 +145,7 @@ module _ (style : Style) where
         let entries = items style inner [] (a_tree t us) in
         let closes : Splits (93 ∷ rest) (end_list ∷ ts) r = (rest, record { spelled = refl; is_token = tt }, s) in
         let behind : Splits (entries ++ (line ++ 93 ∷ rest)) (item_tokens style.ascii (a_tree t us) (end_list ∷ ts)) r =
-        items_split inner (a_tree t us) (line ++ 93 ∷ rest) (end_list ∷ ts) r (deeper_spaces style.pretty line h) is (spaces_end line (93 ∷ rest) h refl) (behind_spaces line (93 ∷ rest) (end_list ∷ ts) r h closes) in
-        (
+        items_split inner (a_tree t us) (line ++ 93 ∷ rest) (end_list ∷ ts) r (deeper_spaces style.pretty line h) is (spaces_end line (93 ∷ rest) h refl) (behind_spaces line (93 ∷ rest) (end_list ∷ ts) r h closes) in (
           (entries ++ (line ++ 93 ∷ [])) ++ rest,
           record { spelled = refl; is_token = tt },
           subst (λ (l : List ℕ). Splits l (item_tokens style.ascii (a_tree t us) (end_list ∷ ts)) r) (sym (closing entries line rest 93)) behind,
@@ -160,8 +157,7 @@ module _ (style : Style) where
         let entries = members style inner [] (a_pair k t ps) in
         let closes : Splits (125 ∷ rest) (end_map ∷ ts) r = (rest, record { spelled = refl; is_token = tt }, s) in
         let behind : Splits (entries ++ (line ++ 125 ∷ rest)) (member_tokens style.ascii (a_pair k t ps) (end_map ∷ ts)) r =
-        members_split inner (a_pair k t ps) (line ++ 125 ∷ rest) (end_map ∷ ts) r (deeper_spaces style.pretty line h) is.1 (spaces_end line (125 ∷ rest) h refl) (behind_spaces line (125 ∷ rest) (end_map ∷ ts) r h closes) in
-        (
+        members_split inner (a_pair k t ps) (line ++ 125 ∷ rest) (end_map ∷ ts) r (deeper_spaces style.pretty line h) is.1 (spaces_end line (125 ∷ rest) h refl) (behind_spaces line (125 ∷ rest) (end_map ∷ ts) r h closes) in (
           (entries ++ (line ++ 125 ∷ [])) ++ rest,
           record { spelled = refl; is_token = tt },
           subst (λ (l : List ℕ). Splits l (member_tokens style.ascii (a_pair k t ps) (end_map ∷ ts)) r) (sym (closing entries line rest 125)) behind,

@@ -1,15 +1,13 @@
 -- The tokens that a tree is printed as, and that the tree is their value.
-use Rattle.std.proofs.Common.{◌≡◌, ℕ, ◌+◌, ◌≤◌, List, [], ◌∷◌, ◌++◌, length, take, refl, sym, ap, subst, ◌∙◌, append_assoc, arith, Bool, true, false}
+use Rattle.std.proofs.Common.{◌≡◌, ℕ, ◌+◌, List, [], ◌∷◌, ◌++◌, length, take, refl, sym, ap, subst, ◌∙◌, append_assoc, Bool, true, false}
 use Rattle.std.specs.Prelude.{Some, slice_get}
-use Rattle.std.proofs.lemmas.List.{take_at}
+use Rattle.std.proofs.lemmas.List.{take_at, append-nil}
 use Rattle.text_base.specs.NumberText.{text_of}
 use Rattle.info_tree.specs.Tree.{Tree, null, truth, number, text, list, mapping, Trees, no_trees, a_tree, Pairs, no_pairs, a_pair, trees_of, tree_list, pairs_of}
 use Rattle.info_tree.specs.Pairs.{put, pair_list, HaveDistinctKeys}
 use Rattle.info_tree.specs.Token.{Word, null_word, true_word, false_word, Token, begin_list, end_list, begin_map, end_map, comma, colon, word, numeral, string}
 use Rattle.info_tree.specs.Json.{put_all, IsValue, a_word, a_number, a_string, a_list, a_map, AreItems, no_items, items, AreMoreItems, no_more_items, more_items, AreMembers, no_members, members, AreMoreMembers, no_more_members, more_members}
-use Rattle.info_tree.specs.Levels.{level, StayWithin}
-use Rattle.info_tree.specs.Reading.{AreAccepted}
-use Rattle.info_tree.specs.ReadsAgain.{tree_levels, trees_levels, pairs_levels, IsSound, AreSound, HaveSound}
+use Rattle.info_tree.specs.ReadsAgain.{IsSound, AreSound, HaveSound}
 use Rattle.info_tree.proofs.Lexing.{value_from}
 use Rattle.info_tree.proofs.Parts.{next_item, next_pair}
 use Rattle.info_tree.proofs.StringPieces.{inside_pieces, text_again}
@@ -102,10 +100,6 @@ length-seam (x ∷ xs) p ps = length-seam xs p ps
 
 take-seam : (xs : List (List ℕ × Tree)) (p : List ℕ × Tree) (ps : List (List ℕ × Tree)) → take (length xs + 1) (xs ++ p ∷ ps) ≡ xs ++ p ∷ []
 take-seam xs p ps = sym (next_item (xs ++ p ∷ ps) (length xs) p (length-seam xs p ps)) ∙ ap (λ l. l ++ p ∷ []) (take_at xs (p ∷ ps) (length xs) refl)
-
-append-nil : {A : Type 0} (l : List A) → l ++ [] ≡ l
-append-nil [] = refl
-append-nil (x ∷ xs) = ap (λ k. x ∷ k) (append-nil xs)
 
 all_put : (xs ps : List (List ℕ × Tree)) → HaveDistinctKeys (xs ++ ps) → put_all xs ps ≡ xs ++ ps
 all_put xs [] d = sym (append-nil xs)

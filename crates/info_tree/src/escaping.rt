@@ -10,7 +10,7 @@ use text_base::OutOfMemory;
 pub fn push_quoted(out: &mut String, text: &str, ascii: bool) -> Result<(), OutOfMemory>
     ensures out { OnOk result (string_bytes out.new ≡ string_bytes out.old
         ++ quoted ascii text.now) }
-    ensures text { IsUtf8 text.now }
+    ensures utf8 { IsUtf8 text.now }
 {
     out.push('"')?;
     push_inside(out, text, ascii)?;

@@ -35,6 +35,7 @@ fn push_tree(
 ) -> Result<(), OutOfMemory>
     ensures out { OnOk result (string_bytes out.new ≡ string_bytes out.old
         ++ printed style line.now (plain tree.now)) }
+    // What is printed has what the law of `tree_json` takes of a tree.
     ensures sound { OnOk result (IsSound (plain tree.now)) }
 {
     match tree {

@@ -40,8 +40,8 @@ push_map-loop-place-preserved c = λ a.
     let utf8 : IsUtf8 a.in-Some.key.now = search rules in
     record {
       out = member_put a.args.style inner a.args.map.now a.loop-place.place (a.in-Some.key.now, t) (string_bytes a.loop-place.out) (string_bytes a.push_line.new.out)
-    (string_bytes a.push_quoted.new.out) (string_bytes a.push_str-in-loop-place.new.self) (string_bytes a.push_tree.new.out) _
-    got first second third fourth a.loop-place.invariant.out;
+          (string_bytes a.push_quoted.new.out) (string_bytes a.push_str-in-loop-place.new.self) (string_bytes a.push_tree.new.out) _
+          got first second third fourth a.loop-place.invariant.out;
       sound = pair_sound a.args.map.now a.loop-place.place (a.in-Some.key.now, t) a.loop-place.invariant.sound got utf8 sound;
     }
 
@@ -55,7 +55,7 @@ push_list-loop-place-preserved c = λ a.
     let sound : IsSound t = search rules in
     record {
       out = item_put a.args.style inner a.args.list.now a.loop-place.place t (string_bytes a.loop-place.out) (string_bytes a.push_line.new.out) (string_bytes a.push_tree.new.out) _
-    got first second a.loop-place.invariant.out;
+          got first second a.loop-place.invariant.out;
       sound = item_sound a.args.list.now a.loop-place.place t a.loop-place.invariant.sound got sound;
     }
 

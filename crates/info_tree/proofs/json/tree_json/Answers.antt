@@ -1,6 +1,5 @@
 use Rattle.std.proofs.Common.{◌≡◌, ℕ, List, rules, subst, sym, ◌∙◌}
 use Rattle.std.specs.String.{string_bytes}
-use Rattle.std.specs.Str.{IsUtf8}
 use Rattle.std.proofs.lemmas.Str.{IsUtf8-string_bytes}
 use Rattle.info_tree.specs.Plain.{plain}
 use Rattle.info_tree.specs.Printed.{printed, first_line}
