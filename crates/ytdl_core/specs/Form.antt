@@ -11,6 +11,7 @@ use Rattle.ytdl_core.specs.declared.meaning.Meaning.{Meaning}
 use Rattle.ytdl_core.specs.declared.meaning.Meaning.TheVariants.{Flag, Value, NotBuilt}
 use Rattle.ytdl_core.specs.OptionTable.{meaning_of}
 
+-- a flag that is turned, an option with its value or without, the end of the options, or a word at fault
 pub data Form : Type 0 where
   turns : Turned → Form
   -- the option and its value stand in one word
@@ -30,6 +31,7 @@ formed (Some (Flag flag)) (Some value) of_flag = faulty of_flag
 formed (Some (Value option)) None of_flag = asks option
 formed (Some (Value option)) (Some value) of_flag = gives option value
 
+-- the byte `=`
 abbrev pub is_equals : ℕ → Bool
 is_equals b = b == 61
 
@@ -54,6 +56,7 @@ short_form word =
     if is_ascii (slice_index word 1) then formed (meaning_of (take 2 word)) (joined_value (drop 2 word)) fault.Unknown
     else faulty fault.Unknown
 
+-- `--` alone, two dashes and more, a dash and a letter, or no option
 abbrev pub form_of : List ℕ → Form
 form_of word =
     if bytes_eq word (codes "--") then closes

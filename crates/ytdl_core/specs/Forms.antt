@@ -3,6 +3,7 @@ use Rattle.ytdl_core.specs.declared.form.Form.{Form}
 use Rattle.ytdl_core.specs.declared.form.Form.TheVariants.{Turns, Gives, Asks, Closes, Faulty}
 use Rattle.ytdl_core.specs.Form.{Form as Plain, turns, gives, asks, closes, faulty}
 
+-- a form, its value as a text
 abbrev pub plain_form : Form → Plain
 plain_form (Turns flag) = turns flag
 plain_form (Gives option value) = gives option value.now

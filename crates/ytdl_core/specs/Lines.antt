@@ -50,6 +50,7 @@ pub record SendsSome (script : Script) (out out_now err err_now : Option (List �
   pub count : ℕ
   pub front : Sends (take count script) out out_now err err_now
 
+-- a name on a line: its stem, a point and its extension
 abbrev pub name_line : List ℕ → List ℕ → List ℕ
 name_line stem extension = stem ++ codes "." ++ extension ++ codes "\n"
 
@@ -94,6 +95,7 @@ abbrev pub info_text : InfoFault → List ℕ
 info_text (Tree fault) = tree_text fault
 info_text (Item fault) = item_text fault
 
+-- why a word is refused
 abbrev pub option_text : OptionFault → List ℕ
 option_text option.Unknown = codes "unknown option"
 option_text option.NeedsValue = codes "value missing"

@@ -5,9 +5,11 @@ use Rattle.std.specs.Str.{bytes_eq}
 use Rattle.ytdl_core.specs.declared.option_table.OptionRow.{OptionRow}
 use Rattle.ytdl_core.specs.OptionTable.{Row}
 
+-- a row, its names as texts
 abbrev pub plain_row : OptionRow → Row
 plain_row row = record { names = map (λ name. name.now) row.names.now; meaning = row.meaning }
 
+-- rows in their order
 abbrev pub plain_rows : List OptionRow → List Row
 plain_rows = map plain_row
 

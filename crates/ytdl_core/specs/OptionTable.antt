@@ -8,10 +8,12 @@ use Rattle.ytdl_core.specs.declared.meaning.Valued.TheVariants.{Info, Format, Pr
 use Rattle.ytdl_core.specs.declared.meaning.Meaning.{Meaning}
 use Rattle.ytdl_core.specs.declared.meaning.Meaning.TheVariants.{Flag, Value, NotBuilt}
 
+-- an option: its names, long ones and those of one letter, and what it is for
 pub record Row : Type 0 where
   pub names : List (List ℕ)
   pub meaning : Meaning
 
+-- a row by its parts
 abbrev pub row : List (List ℕ) → Meaning → Row
 row names meaning = record { names = names; meaning = meaning }
 

@@ -20,10 +20,12 @@ abbrev pub fault_of_choice : List ℕ → Option OptionFault
 fault_of_choice [] = Some BadValue
 fault_of_choice (b ∷ bs) = if list_all is_ascii_digit (b ∷ bs) then None else Some NotBuilt
 
+-- a file has a name
 abbrev pub fault_of_file : List ℕ → Option OptionFault
 fault_of_file [] = Some BadValue
 fault_of_file (b ∷ bs) = None
 
+-- of what may be printed the file name alone is built
 abbrev pub fault_of_print : List ℕ → Option OptionFault
 fault_of_print value = if bytes_eq value (codes "filename") then None else Some NotBuilt
 
@@ -43,6 +45,7 @@ abbrev pub first_fault : List Use → Option WordsFault
 first_fault [] = None
 first_fault (first ∷ rest) = option_or (use_fault first) (first_fault rest)
 
+-- nothing is set
 abbrev pub no_settings : Settings
 no_settings = record { info = None; choice = None; prints = 0; simulate = None; quiet = None }
 

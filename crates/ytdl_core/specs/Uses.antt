@@ -18,6 +18,7 @@ pub record Reading : Type 0 where
   pub uses : List Use
   pub fault : Option WordsFault
 
+-- no use, and no fault
 abbrev pub nothing : Reading
 nothing = record { uses = []; fault = None }
 
