@@ -1,0 +1,5 @@
+pub mod OrderLemmas
+pub mod RankedLemmas
+pub mod ReadingLemmas
+pub mod RowLemmas
+pub mod SpaceLemmas

@@ -1,0 +1,13 @@
+pub mod Keys
+pub mod Marks
+pub mod Order
+pub mod PieceParts
+pub mod Pieces
+pub mod Rank
+pub mod Read
+pub mod Reading
+pub mod Ranked
+pub mod Rows
+pub mod Spec
+pub mod ValueParts
+pub mod Values

@@ -1,0 +1,37 @@
+-- A sort specification: whether free formats are preferred, and the fields in their order.
+use Rattle.std.specs.Prelude.{ℕ, List, map, Bool, Option}
+use Rattle.std.specs.Option.{option_map}
+use Rattle.text_base.specs.Number.{Number, number_of}
+use Rattle.fmt_sort.specs.declared.limit.Limit.{Limit}
+use Rattle.fmt_sort.specs.declared.limit.Limit.TheVariants.{Number as NumberLimit, Points as PointsLimit}
+use Rattle.fmt_sort.specs.declared.sort_field.SortField.{SortField}
+use Rattle.fmt_sort.specs.declared.sort_key.SortKey.{SortKey}
+use Rattle.fmt_sort.specs.declared.sort_spec.SortSpec.{SortSpec}
+
+-- a limit: a number, or the points of a text in the field's row
+pub data Bound : Type 0 where
+  at_number : Number → Bound
+  at_points : ℕ → Bound
+
+-- a field of the order: its name, whether `+` stands, whether `~` stands, and its limit
+pub record Wanted : Type 0 where
+  pub key : SortKey
+  pub reversed : Bool
+  pub nearest : Bool
+  pub limit : Option Bound
+
+-- a sort specification
+pub record Wish : Type 0 where
+  pub free : Bool
+  pub fields : List Wanted
+
+-- what values of the program stand for
+abbrev pub bound_of : Limit → Bound
+bound_of (NumberLimit n) = at_number (number_of n)
+bound_of (PointsLimit p) = at_points p
+
+abbrev pub wanted_of : SortField → Wanted
+wanted_of f = record { key = f.key; reversed = f.is_reversed; nearest = f.is_nearest; limit = option_map bound_of f.limit }
+
+abbrev pub wish_of : SortSpec → Wish
+wish_of s = record { free = s.free; fields = map wanted_of s.fields.items }
