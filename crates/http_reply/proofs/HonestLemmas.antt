@@ -163,7 +163,7 @@ judged_200 from n known fields plain not_chunked told within fits agrees =
     let short : nat_lt n from ≡ false = le-ltb n from within in
     rw (plain, not_chunked, told, no_fault known n agrees fits, short) refl
 
-judged_chunked : (from : ℕ) (known : Option ℕ) (fields : Fields) → IsFalse (is_encoded fields) → IsTrue (is_chunked fields)
+pub judged_chunked : (from : ℕ) (known : Option ℕ) (fields : Fields) → IsFalse (is_encoded fields) → IsTrue (is_chunked fields)
     → judge from known 200 fields ≡ accept None (plan.Whole None)
 unfolding judge
 judged_chunked from known fields plain chunked = rw (plain, chunked) refl
@@ -181,7 +181,7 @@ whole_chunked bytes body from at known is within agrees =
     let short : nat_lt (length bytes) from ≡ false = le-ltb (length bytes) from within in
     rw is (rw (no_change known (length bytes) agrees, short) refl)
 
-by_judged : (from : ℕ) (known : Option ℕ) (at : ℕ) (body : List ℕ) (told : Option ℕ) (p : Plan) (j : Judged) → j ≡ accept told p
+pub by_judged : (from : ℕ) (known : Option ℕ) (at : ℕ) (body : List ℕ) (told : Option ℕ) (p : Plan) (j : Judged) → j ≡ accept told p
     → judged_verdict from known at body j.told j.plan ≡ plan_verdict from known at body p
 by_judged from known at body told p j is = rw is refl
 

@@ -7,3 +7,5 @@ pub mod HeadLemmas
 pub mod GrowLemmas
 pub mod VerdictLemmas
 pub mod HonestLemmas
+pub mod TruthLemmas
+pub mod TruthLaw
