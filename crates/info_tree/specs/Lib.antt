@@ -4,6 +4,7 @@ pub mod Keys
 pub mod Levels
 pub mod Lexed
 pub mod Machine
+pub mod Members
 pub mod Pairs
 pub mod Plain
 pub mod Printed

@@ -9,6 +9,7 @@ mod escaping;
 mod json;
 mod keys;
 mod machine;
+mod members;
 mod reader;
 mod style;
 mod token;

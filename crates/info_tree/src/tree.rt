@@ -1,10 +1,10 @@
-ghost use Rattle.std.specs.Prelude.{◌≡◌, ◌<◌, vec_len, slice_set, length, slice_get, OnOk, [], ◌∷◌, ◌++◌};
+ghost use Rattle.std.specs.Prelude.{◌≡◌, length, slice_get, OnOk, [], ◌∷◌, ◌++◌};
 ghost use Rattle.std.specs.Option.{option_map};
 ghost use Rattle.std.specs.String.{string_bytes};
 ghost use Rattle.info_tree.specs.Plain.{plain};
 ghost use Rattle.info_tree.specs.Pairs.{value_at, put, member, item, HaveDistinctKeys};
 
-use crate::keys::Keys;
+use crate::members::Members;
 use std::alloc::{AllocError, Global};
 use std::marker::Model;
 use text_base::{Num, OutOfMemory, Text};
@@ -28,7 +28,7 @@ pub struct TreeList {
 }
 
 impl Model for TreeList {
-    ghost use Rattle.std.specs.Prelude.{List, map};
+    ghost use Rattle.std.specs.Prelude.{◌*◌, List, map};
     ghost use Rattle.info_tree.specs.Tree.{Tree as Plain, trees_of, trees_size};
     ghost use Rattle.info_tree.specs.TreeCode.{coded_trees};
 
@@ -40,7 +40,7 @@ impl Model for TreeList {
 
     ghost view = { λ a. map plain a.items.items };
 
-    ghost size = { λ ts. trees_size (trees_of ts) };
+    ghost size = { λ ts. 2 * trees_size (trees_of ts) };
 
     ghost use Rattle.info_tree.specs.Falls.{depth_le-trees_size};
 
@@ -51,13 +51,13 @@ impl Model for TreeList {
 #[cycle(tree)]
 #[derive(Drop)]
 pub struct TreeMap {
-    keys: Keys,
-    values: Vec<Tree>,
+    alloc: Global,
+    /// Behind a pointer, so that the other trees are small.
+    members: Option<Box<Members>>,
 }
 
 impl Model for TreeMap {
-    ghost use Rattle.std.specs.Prelude.{◌≡◌, ℕ, List, map, length};
-    ghost use Rattle.std.specs.List.{zip};
+    ghost use Rattle.std.specs.Prelude.{◌*◌, ◌+◌, ℕ, List};
     ghost use Rattle.info_tree.specs.Tree.{Tree as Plain, pairs_of, pairs_size};
     ghost use Rattle.info_tree.specs.TreeCode.{coded_pairs};
 
@@ -65,17 +65,15 @@ impl Model for TreeMap {
 
     ghost coded = { coded_pairs };
 
-    ghost use Rattle.info_tree.specs.Plain.{plain};
+    ghost use Rattle.info_tree.specs.Members.{members_of};
 
-    ghost view = { λ a. zip a.keys (map plain a.values.items) };
+    ghost view = { λ a. members_of a.members };
 
-    ghost invariant = { λ a. length a.keys ≡ length a.values.items };
+    ghost size = { λ ps. 2 * pairs_size (pairs_of ps) + 1 };
 
-    ghost size = { λ ps. pairs_size (pairs_of ps) };
+    ghost use Rattle.info_tree.specs.Falls.{depth_le-members};
 
-    ghost use Rattle.info_tree.specs.Falls.{depth_le-pairs_size};
-
-    ghost size_decreases = { λ a h. depth_le-pairs_size a.keys a.values.items h };
+    ghost size_decreases = { λ a h. depth_le-members a };
 }
 
 impl TreeList {
@@ -112,72 +110,60 @@ impl TreeMap {
         ensures { result ≡ [] }
     {
         TreeMap {
-            keys: Keys::new(alloc),
-            values: Vec::new(alloc),
+            alloc,
+            members: None,
         }
     }
 
     pub fn len(&self) -> usize
         ensures { result ≡ length self.now }
     {
-        self.values.len()
+        match &self.members {
+            Some(members) => members.len(),
+            None => 0,
+        }
     }
 
     /// No two pairs have the same key.
     pub fn keys_differ(&self)
         ensures { HaveDistinctKeys self.now }
     {
-        self.keys.differ();
+        if let Some(members) = &self.members {
+            members.keys_differ();
+        }
     }
 
     pub fn get(&self, key: &str) -> Option<&Tree>
         ensures { option_map (λ t. plain t.now) result ≡ value_at self.now key.now }
     {
-        let place = self.keys.place_of(key)?;
-        value(&self.values, place)
+        match &self.members {
+            Some(members) => members.get(key),
+            None => None,
+        }
     }
 
     /// The pair at a place.
     pub fn pair(&self, place: usize) -> Option<(&str, &Tree)>
         ensures { option_map (λ p. (p.0.now, plain p.1.now)) result ≡ slice_get self.now place }
     {
-        let key = self.keys.get(place)?;
-        let tree = value(&self.values, place)?;
-        Some((key, tree))
+        match &self.members {
+            Some(members) => members.pair(place),
+            None => None,
+        }
     }
 
     /// Puts a tree under a key: a key that is there keeps its place.
     pub fn set(&mut self, key: String, tree: Tree) -> Result<(), OutOfMemory>
         ensures { OnOk result (self.new ≡ put self.old (string_bytes key) (plain tree)) }
     {
-        match self.keys.place_of(key.as_str()) {
-            Some(place) => {
-                replace(&mut self.values, place, tree);
-                Ok(())
-            }
-            None => {
-                self.values.push(tree)?;
-                if self.keys.push(key).is_err() {
-                    let _ = self.values.pop();
-                    return Err(OutOfMemory);
-                }
-                Ok(())
-            }
-        }
+        let mut members = match self.members.take() {
+            Some(members) => members,
+            None => Box::new(self.alloc, Members::new(self.alloc))?,
+        };
+        let set = members.set(key, tree);
+        self.members = Some(members);
+        set
     }
-}
-
-fn value(values: &Vec<Tree>, place: usize) -> Option<&Tree>
-    ensures { option_map (λ t. plain t.now) result ≡ option_map plain (slice_get values.now.items place) }
-{
-    values.get(place)
-}
-
-fn replace(values: &mut Vec<Tree>, place: usize, tree: Tree)
-    requires { place < vec_len values.old }
-    ensures { values.new.items ≡ slice_set values.old.items place tree }
-{
-    values[place] = tree;
 }
 
 impl Tree {

@@ -3,7 +3,7 @@ use Rattle.std.specs.Prelude.{slice_get}
 use Rattle.std.specs.Option.{option_map}
 use Rattle.info_tree.specs.Plain.{plain}
 use Rattle.info_tree.proofs.PairLemmas.{value_at_is}
-use Rattle.info_tree.proofs.tree.TreeMap.get.Goals as goal
+use Rattle.info_tree.proofs.members.Members.get.Goals as goal
 
 pub returns-in_err-place : goal.returns-in_err-place
 returns-in_err-place c =

@@ -3,7 +3,7 @@ use Rattle.std.specs.Prelude.{Some, None, slice_get}
 use Rattle.std.specs.Option.{option_map}
 use Rattle.info_tree.specs.Plain.{plain}
 use Rattle.info_tree.proofs.PairLemmas.{pair_at}
-use Rattle.info_tree.proofs.tree.TreeMap.pair.Goals as goal
+use Rattle.info_tree.proofs.members.Members.pair.Goals as goal
 
 pub returns-in_err-key : goal.returns-in_err-key
 returns-in_err-key c =

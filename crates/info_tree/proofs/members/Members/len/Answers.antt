@@ -1,6 +1,6 @@
 use Rattle.std.proofs.Common.{rules}
 use Rattle.info_tree.proofs.PairLemmas.{length-view}
-use Rattle.info_tree.proofs.tree.TreeMap.len.Goals as goal
+use Rattle.info_tree.proofs.members.Members.len.Goals as goal
 
 pub returns : goal.returns
 returns c =

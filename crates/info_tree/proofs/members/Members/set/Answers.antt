@@ -2,7 +2,7 @@ use Rattle.std.proofs.Common.{◌≡◌, sym, ◌∙◌, rules}
 use Rattle.std.specs.Prelude.{[], ◌∷◌, ◌++◌}
 use Rattle.std.specs.String.{string_bytes}
 use Rattle.info_tree.proofs.PairLemmas.{put_at, put_new, view-push}
-use Rattle.info_tree.proofs.tree.TreeMap.set.Goals as goal
+use Rattle.info_tree.proofs.members.Members.set.Goals as goal
 
 pub returns-in-Some : goal.returns-in-Some
 returns-in-Some c =
