@@ -5,3 +5,6 @@ pub mod Heads
 pub mod Body
 pub mod Taking
 pub mod Try
+pub mod Turns
+pub mod Memory
+pub mod MemoryDialer

@@ -7,11 +7,17 @@ mod body_end;
 mod body_fault;
 mod cut;
 mod dialer;
+mod dialer_mem;
 mod endings;
 mod fetch;
 mod fetched;
 mod final_head;
 mod header;
+mod mem_dial;
+mod mem_line;
+mod mem_reply;
+mod mem_talk;
+mod page;
 mod piece;
 mod reply_heads;
 mod request;
@@ -20,14 +26,18 @@ mod send;
 mod share;
 mod take_body;
 mod take_reply;
+mod turn;
 mod window;
 
 pub use dialer::Dialer;
+pub use dialer_mem::DialerMem;
 pub use fetch::fetch_from;
 pub use fetched::Fetched;
 pub use header::Header;
 pub use http_reply::PieceFault;
+pub use page::Page;
 pub use piece::Piece;
+pub use turn::Turn;
 
 #[cfg(test)]
 mod tests;

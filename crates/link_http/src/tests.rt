@@ -4,6 +4,7 @@ use std::process::Abort;
 use std::test::Fail;
 use text_base::Text;
 
+mod memory;
 mod replay;
 mod sink;
 
