@@ -8,18 +8,18 @@ use Rattle.folder_base.specs.Disk.{Name, begins}
 use Rattle.folder_base.specs.Parts.{is_part, is_in_some, AreApart}
 use Rattle.folder_base.proofs.Parted.{AreDisjoint}
 
-both_so : (a b : Bool) → (a && b) ≡ true → (a ≡ true) × (b ≡ true)
+pub both_so : (a b : Bool) → (a && b) ≡ true → (a ≡ true) × (b ≡ true)
 both_so true b e = (refl, e)
 both_so false b e = cc
 
-some_so : (a b : Bool) → (a || b) ≡ true → (a ≡ true) ⊎ (b ≡ true)
+pub some_so : (a b : Bool) → (a || b) ≡ true → (a ≡ true) ⊎ (b ≡ true)
 some_so true b e = inl refl
 some_so false b e = inr e
 
-so_left : (a b : Bool) → a ≡ true → (a || b) ≡ true
+pub so_left : (a b : Bool) → a ≡ true → (a || b) ≡ true
 so_left a b e = ap (λ (v : Bool). v || b) e
 
-so_right : (a b : Bool) → b ≡ true → (a || b) ≡ true
+pub so_right : (a b : Bool) → b ≡ true → (a || b) ≡ true
 so_right true b e = refl
 so_right false b e = e
 

@@ -1,5 +1,5 @@
 -- Names that begin with some bytes, of a map's keys.
-use Rattle.std.proofs.Common.{◌≡◌, ◌∙◌, sym, Bool, true, false, ◌&&◌, ◌||◌, List, [], ◌∷◌, refl, ap, nat_eq, map, string_bytes, String, BTreeMap, is_some, cond, Less, Bor}
+use Rattle.std.proofs.Common.{◌≡◌, ◌∙◌, sym, Bool, true, false, ◌&&◌, ◌||◌, List, [], ◌∷◌, ◌++◌, refl, ap, nat_eq, map, string_bytes, String, BTreeMap, is_some, cond, Less, Bor}
 use Rattle.std.specs.Prelude.{Option, Some, None, option_map, bytes_eq}
 use Rattle.std.specs.List.{starts_with, filter, list_any, AllByRecursion}
 use Rattle.std.specs.List.Sorted.{IsStrictlySortedBy}
@@ -10,6 +10,7 @@ use Rattle.std.specs.Map.{lookup}
 use Rattle.std.specs.BTreeMap.{keys, IsOrdered, is_at}
 use Rattle.std.specs.declared.alloc.Global.{Global}
 use Rattle.std.proofs.lemmas.List.Kept.{IsStrictlySortedBy-filter}
+use Rattle.std.proofs.lemmas.List.{map-append}
 use Rattle.std.proofs.lemmas.Slice.Eq.{bytes_eq-Decides}
 use Rattle.std.proofs.lemmas.Cmp.{nat_list_eq_equiv}
 use Rattle.std.proofs.lemmas.Map.Text.{is_eq-slice_cmp}
@@ -77,6 +78,10 @@ any_filter name test (first ∷ all) =
     one_more (bytes_eq name first) (test name) (test first) (list_any (bytes_eq name) all) name first (filter test all) refl (any_filter name test all)
     (λ same. ap test (sym ((bytes_eq-Decides name first).0 same)))
 
+-- A name is among the keys where it stands.
+pub keys_stand : (name : Name) (files : BTreeMap (String Global) Stored) → list_any (bytes_eq name) (key_names files) ≡ is_some (names_of files name)
+keys_stand name files = found_is name files.entries ∙ is_some_map (lookup (is_at (λ key. slice_cmp nat_cmp name (string_bytes key))) files.entries)
+
 both_so : (a b : Bool) → (a && b) ≡ true → (a ≡ true) × (b ≡ true)
 both_so true b e = (refl, e)
 both_so false b e = cc
@@ -95,8 +100,15 @@ lists_these prefix files ordered = record {
   where
     listed : (name : Name) → list_any (bytes_eq name) (filter (begins prefix) (key_names files)) ≡ (begins prefix name && is_some (names_of files name))
     listed name = any_filter name (begins prefix) (key_names files)
-        ∙ ap (λ (b : Bool). begins prefix name && b) (found_is name files.entries ∙ is_some_map (lookup (is_at (λ key. slice_cmp nat_cmp name (string_bytes key))) files.entries))
+        ∙ ap (λ (b : Bool). begins prefix name && b) (keys_stand name files)
 
 pub map_twice : (all : List (Bor (String Global))) → map (λ key. string_bytes key.now) all ≡ map (λ key. string_bytes key) (map (λ key. key.now) all)
 map_twice [] = refl
 map_twice (first ∷ all) = ap (λ (l : List Name). string_bytes first.now ∷ l) (map_twice all)
+
+-- a map's keys, as far as they have been gone through
+pub keys_so_far : (files : BTreeMap (String Global) Stored) (front : List (Bor (String Global))) (rest : List (String Global))
+    → map (λ key. key.now) front ++ rest ≡ keys files → map (λ key. string_bytes key.now) front ++ map (λ key. string_bytes key) rest ≡ key_names files
+keys_so_far files front rest is =
+    ap (λ (l : List Name). l ++ map (λ key. string_bytes key) rest) (map_twice front)
+    ∙ sym (map-append (λ (key : String Global). string_bytes key) (map (λ key. key.now) front) rest) ∙ ap (map (λ key. string_bytes key)) is

@@ -1,5 +1,5 @@
 -- The files of a folder in memory as a disk's names.
-use Rattle.std.specs.Prelude.{option_map, String}
+use Rattle.std.specs.Prelude.{Option, Some, None, option_map, String}
 use Rattle.std.specs.BTreeMap.{get_by_text, BTreeMap}
 use Rattle.std.specs.declared.alloc.Global.{Global}
 use Rattle.folder_base.specs.Disk.{Name, File, Names, put}
@@ -12,3 +12,19 @@ names_of files = λ name. option_map file_of (get_by_text files name)
 -- with the file of one name changed, where it stands
 abbrev pub changed_name : Name → (File → File) → Names → Names
 changed_name name change live = put live name (option_map change (live name))
+
+-- what stands in the first, and else in the second
+abbrev pub or_else : Option File → Option File → Option File
+or_else None other = other
+or_else (Some file) other = Some file
+
+abbrev pub over : Names → Names → Names
+over names others = λ name. or_else (names name) (others name)
+
+-- what stands in the second where nothing stands in the first
+abbrev pub if_none : Option File → Option File → Option File
+if_none None other = other
+if_none (Some file) other = None
+
+abbrev pub without : Names → Names → Names
+without names others = λ name. if_none (names name) (others name)

@@ -1,5 +1,6 @@
 -- Parts of a folder: which names are whose, and what they are together.
 use Rattle.std.specs.Prelude.{◌≡◌, Bool, false, not, ◌||◌, List, [], ◌∷◌, ◌++◌, map, Option, Some, None, ⊤, option_map, option_and_then, bytes_eq, if◌then◌else◌, IsTrue, All}
+use Rattle.std.specs.Coded.{×_prop, Π_prop, →_prop, Unit-prop, Coded-set, coded_bool}
 use Rattle.folder_base.specs.Disk.{Name, Names, Spot, still, lost, Spots, Older, Disk, Image, begins, mark, earlier}
 
 -- A part's names: its stem, and what begins with the stem and a point.
@@ -14,6 +15,10 @@ is_in_some (stem ∷ stems) name = is_part stem name || is_in_some stems name
 abbrev pub AreApart : List Name → Type 0
 AreApart [] = ⊤
 AreApart (stem ∷ stems) = All (λ other. (is_part stem other ≡ false) × (is_part other stem ≡ false)) stems × AreApart stems
+
+pub AreApart-prop : (stems : List Name) → IsProp (AreApart stems)
+AreApart-prop [] = Unit-prop
+AreApart-prop (stem ∷ stems) = ×_prop (Π_prop (λ k. Π_prop (λ d. →_prop (×_prop (Coded-set coded_bool _ _) (Coded-set coded_bool _ _))))) (AreApart-prop stems)
 
 -- A file that goes by a name of another part is told as it is now.
 abbrev pub own_spot : (Name → Bool) → Names → Spot → Option Spot

@@ -1,7 +1,7 @@
 //! The files of a folder in memory, by name.
-ghost use Rattle.std.specs.Prelude.{◌≡◌, ◌≢◌, true, false, OnErr, IfOk, IfSome, IfNone, None, Some, is_some, length, option_map};
+ghost use Rattle.std.specs.Prelude.{◌≡◌, ◌≢◌, true, false, OnOk, OnErr, IfOk, IfSome, IfNone, None, Some, is_some, length, option_map};
 ghost use Rattle.folder_base.specs.Disk.{content, longer, shorter, firm, put, empty_file, lasting_file, renamed_names};
-ghost use Rattle.folder_base.specs.Files.{names_of, changed_name};
+ghost use Rattle.folder_base.specs.Files.{names_of, changed_name, over, without};
 ghost use Rattle.folder_base.specs.Log.{stood};
 ghost use Rattle.folder_base.specs.Names.{ReadsFile};
 ghost use Rattle.folder_base.specs.Stored.{file_of};
@@ -157,4 +157,49 @@ pub(crate) fn move_file(
     };
     place_file(files, to, file);
     Ok(true)
+}
+
+/// Puts under a name among `to` what stands under it among `from`.
+pub(crate) fn copy_name(
+    alloc: Global,
+    from: &Files,
+    name: &str,
+    to: &mut Files,
+) -> Result<(), OutOfMemory>
+    ensures ok { OnOk result
+        (names_of to.new ≡ put (names_of to.old) name.now (names_of from.now name.now)) }
+    ensures err { OnErr result (names_of to.new ≡ names_of to.old) }
+{
+    match from.get(name) {
+        Some(file) => {
+            let copy = file.copy(alloc)?;
+            to.insert(String::from_str(alloc, name)?, copy)?;
+        }
+        None => {
+            remove_file(to, name);
+        }
+    }
+    Ok(())
+}
+
+/// Puts copies of all files of `from` among `to`.
+pub(crate) fn copy_all(alloc: Global, from: &Files, to: &mut Files) -> Result<(), OutOfMemory>
+    ensures ok { OnOk result
+        (names_of to.new ≡ over (names_of from.now) (names_of to.old)) }
+    ensures others { without (names_of from.now) (names_of to.new) ≡ without (names_of from.now)
+        (names_of to.old) }
+{
+    for name in from.keys() {
+        copy_name(alloc, from, name, to)?;
+    }
+    Ok(())
+}
+
+/// Removes from `to` all names of `from`.
+pub(crate) fn remove_all(from: &Files, to: &mut Files)
+    ensures { names_of to.new ≡ without (names_of from.now) (names_of to.old) }
+{
+    for name in from.keys() {
+        remove_file(to, name);
+    }
 }

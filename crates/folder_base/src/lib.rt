@@ -1,13 +1,25 @@
 //! A folder of files, what a crash may leave of it, and a folder in memory.
 #![tactic(auto)]
 
+mod content;
 mod file;
 mod files;
 mod folder;
 mod folder_call;
+mod index;
+mod line;
 mod listing;
+mod log;
 mod memory;
+mod memory_parts;
+mod merge;
+mod part_lines;
+mod place;
+mod places;
 mod plan;
+mod round;
+mod side;
+mod split;
 mod step;
 mod steps;
 mod store_fault;
@@ -21,5 +33,7 @@ pub use memory::FolderMem;
 pub use store_fault::StoreFault;
 pub use taker::Taker;
 
+#[cfg(test)]
+mod part_tests;
 #[cfg(test)]
 mod tests;

@@ -37,6 +37,15 @@ impl Stored {
         })
     }
 
+    pub(crate) fn copy(&self, alloc: Global) -> Result<Stored, AllocError>
+        ensures { IfOk result (λ copy. file_of copy ≡ file_of self.now) }
+    {
+        Ok(Stored {
+            bytes: self.bytes.as_slice().to_vec(alloc)?,
+            sure: self.sure,
+        })
+    }
+
     /// Reads its bytes from `at` on, as many as go into the buffer.
     pub(crate) fn read_at(&self, at: u64, buf: &mut [u8]) -> usize
         ensures { ReadsAt self.now.bytes.items at buf.new result }

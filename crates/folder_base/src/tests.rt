@@ -1,3 +1,7 @@
+ghost use Rattle.std.specs.Prelude.{IfOk};
+ghost use Rattle.folder_base.specs.Memory.{world_of};
+ghost use Rattle.folder_base.specs.Story.{IsWhole};
+
 use super::*;
 use std::alloc::Global;
 use std::test::Fail;
@@ -10,7 +14,9 @@ fn file(alloc: Global, name: &str, bytes: &[u8]) -> Result<File, Fail> {
     })
 }
 
-fn empty(alloc: Global, fails: Vec<u64>, stop: Option<u64>) -> Result<FolderMem, Fail> {
+fn empty(alloc: Global, fails: Vec<u64>, stop: Option<u64>) -> Result<FolderMem, Fail>
+    ensures { IfOk result (λ folder. IsWhole (world_of folder)) }
+{
     Ok(FolderMem::new(alloc, Vec::new(alloc), fails, stop)?)
 }
 
