@@ -1,1 +1,17 @@
+pub mod Appended
+pub mod Appending
+pub mod Finding
+pub mod Found
+pub mod LaneSteps
+pub mod Moved
+pub mod Naming
+pub mod Numerals
+pub mod Opened
+pub mod Promised
+pub mod Promising
 pub mod Published
+pub mod Removing
+pub mod Resumed
+pub mod Runs
+pub mod SafeImages
+pub mod SafeSteps

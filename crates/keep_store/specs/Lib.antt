@@ -1,1 +1,9 @@
+pub mod Lane
+pub mod Opening
+pub mod Opens
+pub mod Promise
 pub mod Publish
+pub mod Safe
+pub mod Seen
+pub mod State
+pub mod TookLaws

@@ -3,8 +3,8 @@ use Rattle.std.specs.Prelude.{◌≡◌, ◌⊎◌, ◌≤◌, IsTrue, Some, Non
 use Rattle.text_base.specs.Causes.{Rose}
 use Rattle.text_base.specs.declared.folder_fault.FolderFault.{FolderFault}
 use Rattle.text_base.specs.declared.folder_fault.FolderFault.TheVariants.{Failed, OutOfMemory}
-use Rattle.folder_base.specs.Disk.{Name, File, Disk, Image, May, content, put}
-use Rattle.folder_base.specs.Story.{World}
+use Rattle.folder_base.specs.Disk.{Name, File, Disk, Image, May, content, put, synced, renamed}
+use Rattle.folder_base.specs.Story.{World, Story, Through}
 use Rattle.folder_base.specs.declared.folder_call.FolderCall.{FolderCall}
 use Rattle.folder_base.specs.declared.store_fault.StoreFault.{StoreFault}
 use Rattle.folder_base.specs.declared.store_fault.StoreFault.TheVariants.{Folder, OutOfMemory as NoMemory}
@@ -39,3 +39,8 @@ pub record IsPublished (from to : Name) (disk : Disk) (image : Image) : Type 0 w
 -- as before the call, or with the file published, none of its bytes missing
 abbrev pub IsBeforeOrMoved : Name → Name → Disk → Image → Type 0
 IsBeforeOrMoved from to disk image = May disk image ⊎ IsPublished from to disk image
+
+-- A file was synced and then renamed, or the call ended before that.
+pub record IsMoving (from to : Name) (old new : Story) : Type 0 where
+  pub moments : Through old new (λ image. May old.now image ⊎ May (renamed from to (synced from old.now)) image)
+  pub ends : (new.now ≡ old.now) ⊎ ((new.now ≡ synced from old.now) ⊎ (new.now ≡ renamed from to (synced from old.now)))

@@ -2,20 +2,10 @@ ghost use Rattle.std.specs.Prelude.{◌≡◌, IsTrue, OnOk, IfErr};
 ghost use Rattle.text_base.specs.Causes.{Rose};
 ghost use Rattle.folder_base.specs.Disk.{synced, renamed, settled};
 ghost use Rattle.folder_base.specs.Story.{Through, IsWhole, stands};
-ghost use Rattle.keep_store.specs.Publish.{store_fault, IsBeforeOrMoved, MayRefuse, Stays};
+ghost use Rattle.keep_store.specs.Publish.{IsBeforeOrMoved, MayRefuse, Stays};
 
+use crate::refusal::store_fault;
 use folder_base::{Folder, FolderCall, StoreFault};
-use text_base::FolderFault;
-
-/// The fault of a call of the folder.
-fn store_fault(call: FolderCall, fault: FolderFault) -> StoreFault
-    ensures { result ≡ store_fault call fault }
-{
-    match fault {
-        FolderFault::Failed => StoreFault::Folder { call },
-        FolderFault::OutOfMemory => StoreFault::OutOfMemory,
-    }
-}
 
 /// Gives a file another name, in place of a file that has it, with all its bytes and so that no crash
 /// undoes it. A crash in the middle leaves the new name as it was or with the whole file.
