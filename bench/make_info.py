@@ -50,6 +50,13 @@ def formats(count):
         {"format_id": str(j), "ext": "mp4", "vcodec": "avc1", "acodec": "mp4a", "url": "http://h/%d" % j} for j in range(count)]})
 
 
+def sorted_formats(count):
+    # equal in most fields, so that the last ones decide
+    return json.dumps({"id": "x", "title": "t", "formats": [
+        {"format_id": str(j), "ext": "mp4", "vcodec": "avc1", "acodec": "mp4a", "width": 1280, "height": 720, "fps": 30,
+         "tbr": 1000 + j * 7919 % 97, "asr": 44100, "filesize": 10**6 + j * 7907 % 89, "url": "http://h/%d" % j} for j in range(count)]})
+
+
 def one_map(keys):
     return '{"id":"x","title":"t","formats":[{"format_id":"1","url":"http://h/1"}],%s}' % ",".join('"%s":%d' % pair for pair in keys)
 
@@ -64,7 +71,7 @@ def repeated_key(count):
 
 
 KINDS = {"long": long_strings, "escapes": escaped_strings, "maps": small_maps, "items": items, "formats": formats,
-         "keys": different_keys, "repeated": repeated_key}
+         "sorted": sorted_formats, "keys": different_keys, "repeated": repeated_key}
 
 if __name__ == "__main__":
     kind, number, path = sys.argv[1], int(sys.argv[2]), sys.argv[3]

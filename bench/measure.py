@@ -19,8 +19,14 @@ CASES = {
     "maps": (13000, 130000, []),
     "items": (1000, 10000, ["-f", "7"]),
     "formats": (1000, 10000, ["-f", "7"]),
+    "sorted": (1000, 10000, ["-f", "b", "-S", "res:720,fps,vcodec,asr,size,br"]),
     "keys": (100000, 1000000, []),
     "repeated": (100000, 1000000, []),
+}
+
+# what python3 does with the same file, where that is more than to read it
+PYTHON = {
+    "sorted": "sorted(info['formats'], key=lambda f: (f['height'] <= 720, f['height'], f['fps'], f['vcodec'], f['asr'], f['filesize'], f['tbr']))",
 }
 
 
@@ -57,8 +63,8 @@ def main():
             size = os.path.getsize(path)
             results.append((ours, size))
             line = "%s %d: %.1f MiB, ours %.3f s, peak %.2f of the file" % (kind, number, size / 2**20, ours, peak / size)
-            python, _ = timed([sys.executable, "-c", "import json,sys;json.load(open(sys.argv[1],'rb'))", path])
-            line += ", %.2f of python3's json" % (ours / python)
+            python, _ = timed([sys.executable, "-c", "import json,sys;info=json.load(open(sys.argv[1],'rb'));" + PYTHON.get(kind, ""), path])
+            line += ", %.2f of python3's json%s" % (ours / python, " and its sorted" if kind in PYTHON else "")
             if shutil.which("jq"):
                 jq, _ = timed(["jq", ".id?", path], 1)
                 line += ", %.2f of jq" % (ours / jq)

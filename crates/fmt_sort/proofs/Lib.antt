@@ -1,3 +1,4 @@
+pub mod FreeLemmas
 pub mod OrderLemmas
 pub mod RankedLemmas
 pub mod ReadingLemmas

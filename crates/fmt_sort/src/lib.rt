@@ -19,7 +19,7 @@ mod value;
 pub use kind::Kind;
 pub use limit::Limit;
 pub use order::{rank_cmp, sort_formats};
-pub use reading::read_sort;
+pub use reading::{read_sort, read_word};
 pub use row::Row;
 pub use sort_fault::SortFault;
 pub use sort_field::SortField;

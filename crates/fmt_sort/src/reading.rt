@@ -200,7 +200,7 @@ fn push_pair(
 }
 
 /// The fields of a word whose first piece has this number, and the number behind its last.
-fn read_word(
+pub fn read_word(
     alloc: Global,
     word: &[u8],
     number: usize,

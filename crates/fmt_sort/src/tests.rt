@@ -150,3 +150,13 @@ fn fields_have_their_order(rt: HostRuntime) -> Result<(), Fail> {
     );
     Ok(())
 }
+
+#[test]
+fn a_word_is_read_by_itself(rt: HostRuntime) -> Result<(), Fail> {
+    let (fields, next) = read_word(rt.alloc(), "res:720,codec".as_bytes(), 3, false)?;
+    assert_eq!(rt; fields.len(), 3);
+    assert_eq!(rt; next, 5);
+    let end = read_word(rt.alloc(), "res:720,foo".as_bytes(), 3, false).err();
+    assert_eq!(rt; end, Some(SortFault::Field { piece: 4 }));
+    Ok(())
+}

@@ -2,11 +2,12 @@
 use Rattle.std.proofs.Common.{◌≡◌, ℕ, suc, ◌+◌, ◌<◌, ◌≤◌, List, [], ◌∷◌, ◌++◌, Bool, true, false, length, get_or, drop, take, ◌||◌, refl, sym, ◌∙◌, ap, arith, append_assoc, inl, inr, ◌⊎◌, zero, eq-eqb, nat_eq, nat_lt, if◌then◌else◌, not, ◌&&◌, add-one, drop-cons, drop_of_length-le}
 use Rattle.std.proofs.Math.Nat.{eq-or-lt_of_le}
 use Rattle.std.proofs.lemmas.Bool.Decides.{nat_tests}
-use Rattle.std.specs.Prelude.{map, slice_index, Option}
-use Rattle.std.specs.List.{list_all, list_any}
+use Rattle.std.specs.Prelude.{map, slice_index}
+use Rattle.std.specs.List.{list_any}
 use Rattle.std.proofs.lemmas.List.{take_more, append-nil}
 use Rattle.std.proofs.lemmas.List.Folds.{list_any-append}
 use Rattle.text_base.specs.Scan.{is_name_special, IsFirst}
+use Rattle.ytdl_core.specs.Selection.{Selection}
 use Rattle.ytdl_core.specs.declared.entry.Entry.{Entry}
 use Rattle.ytdl_core.specs.declared.entry.Entry.TheVariants.{Shown, NoFormat, NotBuilt}
 use Rattle.ytdl_core.specs.Entry.{fits_a_name, behind, all_behind, bars, built_before, entries_of, is_not_built, own_entry, shut}
@@ -198,6 +199,6 @@ all_shut_from place n kept [] entries none is = sym (append-nil kept) ∙ is ∙
 all_shut_from place n kept (entry ∷ rest) entries none is = absurd (omega (arith, none))
 
 -- the entries of items, by their own entries and how many stand before the first that is not built
-pub entries_from : (choice : Option (List ℕ)) (items : List Item) (own : List Entry) (place : ℕ) → own ≡ map (own_entry choice) items →
+pub entries_from : (choice : Selection) (items : List Item) (own : List Entry) (place : ℕ) → own ≡ map (own_entry choice) items →
     place ≡ built_before [] own → take place own ++ map shut (drop place own) ≡ entries_of choice items
 entries_from choice items own place own_is place_is = rw (place_is, own_is) (sym (built_then_shut [] (map (own_entry choice) items)))

@@ -1,6 +1,7 @@
 -- An information file has one reading: its items, or its fault.
-use Rattle.std.proofs.Common.{◌≡◌, ◌≢◌, ◌⊎◌, ◌∙◌, ℕ, List, refl, sym, ap, inl, inr}
-use Rattle.std.specs.Prelude.{Option, Result, Ok, Err, IfOk, IfErr}
+use Rattle.std.proofs.Common.{◌≡◌, ◌≢◌, ◌⊎◌, ℕ, List, ap, inl, inr}
+use Rattle.std.specs.Prelude.{Result, Ok, Err, IfOk, IfErr}
+use Rattle.ytdl_core.specs.Selection.{Selection}
 use Rattle.ytdl_core.specs.declared.entry.Entry.{Entry}
 use Rattle.info_tree.specs.Tree.{Tree as Plain}
 use Rattle.info_tree.specs.Reading.{IsTextOf, Has}
@@ -113,7 +114,7 @@ module _ (T : Type 0) (bytes : List ℕ) (t : Plain) (text : IsTextOf bytes t) (
   exact_by_tree (Err e) ok err = record { info = told e err; faults = its_fault e err; items = its_items e err }
 
 -- the entries of the tree are those of the bytes
-pub entries_by_tree : {T : Type 0} (view : T → List Entry) (choice : Option (List ℕ)) (bytes : List ℕ) (t : Plain) (r : Result T RunFault) →
+pub entries_by_tree : {T : Type 0} (view : T → List Entry) (choice : Selection) (bytes : List ℕ) (t : Plain) (r : Result T RunFault) →
     IsTextOf bytes t → IfOk r (λ v. HasEntries (view v) choice t) → IfOk r (λ v. HaveEntries (view v) choice bytes)
 entries_by_tree view choice bytes t (Ok v) text has = record {
   items = has.items;
@@ -122,7 +123,7 @@ entries_by_tree view choice bytes t (Ok v) text has = record {
 }
 entries_by_tree view choice bytes t (Err e) text has = tt
 
-pub items_by_tree : {T : Type 0} (view : T → List Entry) (choice : Option (List ℕ)) (t : Plain) (r : Result T RunFault) →
+pub items_by_tree : {T : Type 0} (view : T → List Entry) (choice : Selection) (t : Plain) (r : Result T RunFault) →
     IfOk r (λ v. HasEntries (view v) choice t) → IfOk r (λ _. (items : List PlainItem) × (items_of t ≡ Ok items))
 items_by_tree view choice t (Ok v) has = (has.items, has.has)
 items_by_tree view choice t (Err e) has = tt

@@ -1,3 +1,4 @@
+pub mod BestLemmas
 pub mod EntryLemmas
 pub mod FaultLemmas
 pub mod FormLemmas
@@ -5,9 +6,11 @@ pub mod InfoLemmas
 pub mod LimitLemmas
 pub mod MemoryLemmas
 pub mod NameLemmas
+pub mod PickLemmas
 pub mod ReadingLemmas
 pub mod RunLemmas
 pub mod ScriptLemmas
+pub mod SortLemmas
 pub mod StemLemmas
 pub mod TableLemmas
 pub mod ToldLemmas

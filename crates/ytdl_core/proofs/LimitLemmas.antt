@@ -1,5 +1,5 @@
 -- Information has the same items, or the same fault, by its first 67,108,865 bytes as by all of them.
-use Rattle.std.proofs.Common.{◌≡◌, ◌⊎◌, ℕ, ◌+◌, ◌<◌, ◌≤◌, List, [], length, take, drop, min, refl, sym, arith, inl, inr, subst, length-take}
+use Rattle.std.proofs.Common.{◌≡◌, ◌⊎◌, ℕ, ◌+◌, ◌<◌, ◌≤◌, List, [], length, take, drop, sym, arith, inl, inr, subst, length-take}
 use Rattle.std.specs.Prelude.{Option, Some, None, IfSome}
 use Rattle.std.proofs.lemmas.Bool.{cases_order}
 use Rattle.std.proofs.lemmas.List.{take_all}
@@ -8,6 +8,7 @@ use Rattle.info_tree.specs.Reading.{Has}
 use Rattle.info_tree.specs.declared.tree_fault.TreeFault.{TreeFault}
 use Rattle.info_tree.specs.declared.tree_fault.TreeFault.TheVariants as tree
 use Rattle.info_item.specs.Item.{Item as PlainItem}
+use Rattle.ytdl_core.specs.Selection.{Selection}
 use Rattle.ytdl_core.specs.declared.entry.Entry.{Entry}
 use Rattle.ytdl_core.specs.declared.run_fault.InfoFault.{InfoFault}
 use Rattle.ytdl_core.specs.declared.run_fault.InfoFault.TheVariants.{Tree, Item}
@@ -65,12 +66,12 @@ pub items_of_read : (bytes : List ℕ) (items : List PlainItem) → HaveItems by
 items_of_read bytes items have =
     subst (λ b. HaveItems b items) (sym (take_all 67108865 bytes (omega (arith, have.is_text.short)))) have
 
-pub entries_of_whole : (entries : List Entry) (choice : Option (List ℕ)) (bytes : List ℕ) →
+pub entries_of_whole : (entries : List Entry) (choice : Selection) (bytes : List ℕ) →
     HaveEntries entries choice (take 67108865 bytes) → HaveEntries entries choice bytes
 entries_of_whole entries choice bytes have = subst (λ b. HaveEntries entries choice b) (all_read bytes have.items have.have) have
 
 -- nothing is left of information that has entries
-pub nothing_left : (told : Option File) (left : Option (List ℕ)) (entries : List Entry) (choice : Option (List ℕ)) (bytes : List ℕ) →
+pub nothing_left : (told : Option File) (left : Option (List ℕ)) (entries : List Entry) (choice : Selection) (bytes : List ℕ) →
     IfSome told (λ file. (bytes ≡ take 67108865 file.bytes) × (left ≡ Some (drop 67108865 file.bytes))) →
     HaveEntries entries choice bytes → IfSome told (λ file. left ≡ Some [])
 nothing_left None left entries choice bytes read have = tt

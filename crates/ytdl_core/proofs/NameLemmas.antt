@@ -2,7 +2,7 @@
 use Rattle.std.proofs.Common.{◌≡◌, ℕ, ◌+◌, List, [], ◌++◌, true, false, refl, add-one, append_assoc}
 use Rattle.std.specs.Prelude.{codes}
 use Rattle.std.proofs.lemmas.List.{append-nil}
-use Rattle.ytdl_core.specs.declared.options.Options.{Options}
+use Rattle.ytdl_core.specs.Settings.{Options}
 use Rattle.ytdl_core.specs.Lines.{repeated, name_lines}
 
 pub repeated-none : (line : List ℕ) → repeated 0 line ≡ []

@@ -3,7 +3,7 @@ use Rattle.std.proofs.Common.{◌≡◌, ◌⊎◌, ℕ, List, take, drop, refl,
 use Rattle.std.specs.Prelude.{Option, Some, None, IfSome, Result, Ok, Err}
 use Rattle.ytdl_core.specs.declared.entry.Entry.{Entry}
 use Rattle.ytdl_core.specs.declared.report.Report.{Report}
-use Rattle.ytdl_core.specs.declared.options.Options.{Options}
+use Rattle.ytdl_core.specs.Settings.{Options}
 use Rattle.ytdl_core.specs.declared.run_fault.OptionFault.{OptionFault}
 use Rattle.ytdl_core.specs.declared.words_fault.WordsFault.{WordsFault}
 use Rattle.ytdl_core.specs.declared.words_fault.WordsFault.TheVariants.{Bad, OutOfMemory as NoMemory}
@@ -17,17 +17,11 @@ use Rattle.ytdl_core.specs.Reading.{IsReadFault}
 use Rattle.ytdl_core.specs.Run.{OfFile, OfFaultyFile, HaveItems, HaveFault, HaveEntries, IsOfFault, IsOfItems, IsExactOf, IsExact, IsOfWords, IsFaultOfBytes, IsSinkFault, IsUntold, SendsFront}
 use Rattle.ytdl_core.proofs.LimitLemmas.{fault_of_whole, fault_of_read, items_of_read, entries_of_whole}
 
--- an answer that is not want of memory is that of the words
-pub asks_of : (words : List (List ℕ)) (options : Options) → ((◌≡◌ {A = Result Options WordsFault} (Ok options) (words_of words)) ⊎ (◌≡◌ {A = Result Options WordsFault} (Ok options) (Err NoMemory))) →
-    Asks words options
-asks_of words options (inl same) = sym same
-asks_of words options (inr other) = cc other
-
+-- a fault that is not want of memory is that of the words
 pub bad_of : (words : List (List ℕ)) (word : ℕ) (fault : OptionFault) →
-    ((◌≡◌ {A = Result Options WordsFault} (Err (Bad word fault)) (words_of words)) ⊎ (◌≡◌ {A = Result Options WordsFault} (Err (Bad word fault)) (Err NoMemory))) →
-    words_of words ≡ Err (Bad word fault)
-bad_of words word fault (inl same) = sym same
-bad_of words word fault (inr other) = cc other
+    (◌≡◌ {A = WordsFault} (Bad word fault) NoMemory) ⊎ (words_of words ≡ Err (Bad word fault)) → words_of words ≡ Err (Bad word fault)
+bad_of words word fault (inl memory) = cc memory
+bad_of words word fault (inr same) = same
 
 -- words with a fault are blamed
 pub blamed_word : (words : List (List ℕ)) (word : ℕ) (fault : OptionFault) → words_of words ≡ Err (Bad word fault) →
@@ -122,10 +116,10 @@ module _ (words : List (List ℕ)) (told : Option File) (options : Options) (byt
     file None named' read' = tt
     file (Some f) named' read' = (named', whole f.bytes (subst AreSo read'.0 so))
 
-  pub entries_of_file : (entries : List Entry) → HaveEntries entries options.choice bytes →
-      OfFile options told (HaveEntries entries options.choice)
+  pub entries_of_file : (entries : List Entry) → HaveEntries entries options.selection bytes →
+      OfFile options told (HaveEntries entries options.selection)
   entries_of_file entries have =
-      of_file (HaveEntries entries options.choice) (λ b h. entries_of_whole entries options.choice b h) have
+      of_file (HaveEntries entries options.selection) (λ b h. entries_of_whole entries options.selection b h) have
 
   pub fault_of_file : (fault : InfoFault) → HaveFault bytes fault → OfFaultyFile words told fault
   fault_of_file fault have = record {

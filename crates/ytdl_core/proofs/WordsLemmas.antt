@@ -1,6 +1,7 @@
 -- How words read on behind a use, and what a use adds to what is set.
-use Rattle.std.proofs.Common.{◌≡◌, ℕ, ◌+◌, ◌-◌, ◌<◌, ◌≤◌, List, [], ◌∷◌, length, refl, ap, sym, ◌∙◌, add_assoc, zero-add, add-zero, true, false, ◌==◌, arith}
+use Rattle.std.proofs.Common.{◌≡◌, ℕ, ◌+◌, ◌-◌, ◌<◌, ◌≤◌, List, [], ◌∷◌, length, refl, ap, sym, ◌∙◌, add_assoc, zero-add, add-zero, append_assoc, true, false, ◌==◌, arith}
 use Rattle.std.proofs.lemmas.Bool.{eqb-true}
+use Rattle.std.proofs.lemmas.List.{append-nil}
 use Rattle.std.specs.Prelude.{Option, Some, None, Err}
 use Rattle.std.specs.Option.{option_or}
 use Rattle.ytdl_core.specs.declared.meaning.Flag.{Flag}
@@ -9,10 +10,9 @@ use Rattle.ytdl_core.specs.declared.run_fault.OptionFault.{OptionFault}
 use Rattle.ytdl_core.specs.declared.run_fault.OptionFault.TheVariants.{NeedsValue, Extra}
 use Rattle.ytdl_core.specs.declared.words_fault.WordsFault.{WordsFault}
 use Rattle.ytdl_core.specs.declared.words_fault.WordsFault.TheVariants.{Bad}
-use Rattle.ytdl_core.specs.declared.settings.Settings.{Settings}
 use Rattle.ytdl_core.specs.Form.{turns, gives, asks, closes, faulty, form_of}
 use Rattle.ytdl_core.specs.Uses.{Use, turned, given, Reading, nothing, stops, use_then, last_reading, first_reading, reading}
-use Rattle.ytdl_core.specs.Settings.{use_fault, first_fault, no_settings, setting_of, over, settings_of, ended, unless_fault}
+use Rattle.ytdl_core.specs.Settings.{Settings, use_fault, first_fault, no_settings, setting_of, over, settings_of, ended, unless_fault}
 use Rattle.ytdl_core.specs.Words.{words_of, continued, rest_of}
 
 -- a flag is one use
@@ -73,31 +73,44 @@ pub over-assoc : (a b c : Settings) → over (over a b) c ≡ over a (over b c)
 over-assoc a b c =
     rw (
       option_or-assoc a.info b.info c.info,
-      option_or-assoc a.choice b.choice c.choice,
+      option_or-assoc a.pick b.pick c.pick,
+      option_or-assoc a.force b.force c.force,
+      option_or-assoc a.free b.free c.free,
       option_or-assoc a.simulate b.simulate c.simulate,
       option_or-assoc a.quiet b.quiet c.quiet,
       add_assoc c.prints b.prints a.prints,
+      add_assoc c.pieces b.pieces a.pieces,
+      append_assoc c.sort b.sort a.sort,
     ) refl
 
 pub over-none : (a : Settings) → over a no_settings ≡ a
 over-none a =
-    rw (option_or-none a.info, option_or-none a.choice, option_or-none a.simulate, option_or-none a.quiet, zero-add a.prints) refl
+    rw (
+      option_or-none a.info,
+      option_or-none a.pick,
+      option_or-none a.force,
+      option_or-none a.free,
+      option_or-none a.simulate,
+      option_or-none a.quiet,
+      zero-add a.prints,
+      zero-add a.pieces,
+    ) refl
 
 pub none-over : (a : Settings) → over no_settings a ≡ a
-none-over a = rw (add-zero a.prints) refl
+none-over a = rw (add-zero a.prints, add-zero a.pieces, append-nil a.sort) refl
 
 -- a use without a fault sets what it sets
-pub continued-use : (early : Settings) (total : ℕ) (first : Use) (read : Reading) → use_fault first ≡ None →
+pub continued-use : (early : Settings) (total : ℕ) (first : Use) (read : Reading) → use_fault early.pieces first ≡ None →
     continued early total (use_then first read) ≡ continued (over (setting_of first) early) total read
 continued-use early total first read none =
-    ap (λ f. unless_fault (option_or (option_or f (first_fault read.uses)) read.fault) (ended total (over (over (settings_of read.uses) (setting_of first)) early))) none
-    ∙ ap (λ s. unless_fault (option_or (first_fault read.uses) read.fault) (ended total s)) (over-assoc (settings_of read.uses) (setting_of first) early)
+    ap (λ f. unless_fault (option_or (option_or f (first_fault (early.pieces + (setting_of first).pieces) read.uses)) read.fault) (ended total (over (over (settings_of read.uses) (setting_of first)) early))) none
+    ∙ ap (λ s. unless_fault (option_or (first_fault (early.pieces + (setting_of first).pieces) read.uses) read.fault) (ended total s)) (over-assoc (settings_of read.uses) (setting_of first) early)
 
 -- a use with a fault is the answer
-pub continued-fault : (early : Settings) (total : ℕ) (first : Use) (read : Reading) (fault : WordsFault) → use_fault first ≡ Some fault →
+pub continued-fault : (early : Settings) (total : ℕ) (first : Use) (read : Reading) (fault : WordsFault) → use_fault early.pieces first ≡ Some fault →
     continued early total (use_then first read) ≡ Err fault
 continued-fault early total first read fault some =
-    ap (λ f. unless_fault (option_or (option_or f (first_fault read.uses)) read.fault) (ended total (over (over (settings_of read.uses) (setting_of first)) early))) some
+    ap (λ f. unless_fault (option_or (option_or f (first_fault (early.pieces + (setting_of first).pieces) read.uses)) read.fault) (ended total (over (over (settings_of read.uses) (setting_of first)) early))) some
 
 pub continued-nothing : (early : Settings) (total : ℕ) → continued early total nothing ≡ ended total early
 continued-nothing early total = ap (ended total) (none-over early)
@@ -107,7 +120,7 @@ unfolding words_of rest_of
 words-rest words =
     let read = reading 0 words in
     let same : 0 ≡ length words - length words = omega arith in
-    ap (λ s. unless_fault (option_or (first_fault read.uses) read.fault) (ended (length words) s)) (sym (over-none (settings_of read.uses)))
+    ap (λ s. unless_fault (option_or (first_fault 0 read.uses) read.fault) (ended (length words) s)) (sym (over-none (settings_of read.uses)))
     ∙ ap (λ place. continued no_settings (length words) (reading place words)) same
 
 pub rest-nothing : (early : Settings) (total : ℕ) → rest_of early total [] ≡ ended total early
@@ -140,7 +153,7 @@ rest-turns early total place word behind flag all form =
     ∙ rest-behind (over (setting_of (turned flag)) early) total place behind all
 
 pub rest-gives : (early : Settings) (total place : ℕ) (word : List ℕ) (behind : List (List ℕ)) (option : Valued) (value : List ℕ) →
-    place + (length behind + 1) ≡ total → form_of word ≡ gives option value → use_fault (given place option value) ≡ None →
+    place + (length behind + 1) ≡ total → form_of word ≡ gives option value → use_fault early.pieces (given place option value) ≡ None →
     rest_of early total (word ∷ behind) ≡ rest_of (over (setting_of (given place option value)) early) total behind
 rest-gives early total place word behind option value all form none =
     rest-place early total place word behind all
@@ -149,7 +162,7 @@ rest-gives early total place word behind option value all form none =
     ∙ rest-behind (over (setting_of (given place option value)) early) total place behind all
 
 pub rest-gives_fault : (early : Settings) (total place : ℕ) (word : List ℕ) (behind : List (List ℕ)) (option : Valued) (value : List ℕ) (fault : WordsFault) →
-    place + (length behind + 1) ≡ total → form_of word ≡ gives option value → use_fault (given place option value) ≡ Some fault →
+    place + (length behind + 1) ≡ total → form_of word ≡ gives option value → use_fault early.pieces (given place option value) ≡ Some fault →
     rest_of early total (word ∷ behind) ≡ Err fault
 rest-gives_fault early total place word behind option value fault all form some =
     rest-place early total place word behind all
@@ -157,7 +170,7 @@ rest-gives_fault early total place word behind option value fault all form some 
     ∙ continued-fault early total (given place option value) (reading (place + 1) behind) fault some
 
 pub rest-asks : (early : Settings) (total place : ℕ) (word value : List ℕ) (behind : List (List ℕ)) (option : Valued) →
-    place + (length (value ∷ behind) + 1) ≡ total → form_of word ≡ asks option → use_fault (given place option value) ≡ None →
+    place + (length (value ∷ behind) + 1) ≡ total → form_of word ≡ asks option → use_fault early.pieces (given place option value) ≡ None →
     rest_of early total (word ∷ value ∷ behind) ≡ rest_of (over (setting_of (given place option value)) early) total behind
 rest-asks early total place word value behind option all form none =
     let later : place + 1 + (length behind + 1) ≡ total = omega arith in
@@ -169,7 +182,7 @@ rest-asks early total place word value behind option all form none =
     ∙ rest-behind (over (setting_of (given place option value)) early) total (place + 1) behind later
 
 pub rest-asks_fault : (early : Settings) (total place : ℕ) (word value : List ℕ) (behind : List (List ℕ)) (option : Valued) (fault : WordsFault) →
-    place + (length (value ∷ behind) + 1) ≡ total → form_of word ≡ asks option → use_fault (given place option value) ≡ Some fault →
+    place + (length (value ∷ behind) + 1) ≡ total → form_of word ≡ asks option → use_fault early.pieces (given place option value) ≡ Some fault →
     rest_of early total (word ∷ value ∷ behind) ≡ Err fault
 rest-asks_fault early total place word value behind option fault all form some =
     rest-place early total place word (value ∷ behind) all

@@ -1,15 +1,20 @@
 -- What each item's entry is: the name of the one format that is chosen of it, where item and format are plain.
-use Rattle.std.specs.Prelude.{ℕ, ◌+◌, List, [], ◌∷◌, ◌++◌, length, map, Bool, true, false, ◌&&◌, ◌||◌, ◌==◌, not, nat_le, nat_eq, if◌then◌else◌, Option, Some, None, is_none, is_some, find, codes}
+use Rattle.std.specs.Prelude.{ℕ, ◌+◌, List, [], ◌∷◌, ◌++◌, length, map, Bool, true, false, ◌&&◌, ◌||◌, ◌==◌, not, nat_le, if◌then◌else◌, Option, Some, None, is_none, is_some, find, codes}
 use Rattle.std.specs.List.{list_all, list_any}
 use Rattle.std.specs.Str.{bytes_eq}
 use Rattle.std.specs.Char.{is_ascii_alphanumeric}
 use Rattle.text_base.specs.Scan.{is_name_special}
 use Rattle.info_tree.specs.Pairs.{member}
 use Rattle.info_item.specs.Item.{Item, Format}
+use Rattle.fmt_sort.specs.Spec.{Wish}
 use Rattle.ytdl_core.specs.declared.entry.Entry.{Entry}
 use Rattle.ytdl_core.specs.declared.entry.Entry.TheVariants.{Shown, NoFormat, NotBuilt}
-use Rattle.info_item.specs.Fields.{text_at, ext_of, has_video_of, has_audio_of}
+use Rattle.info_item.specs.Fields.{text_at, ext_of}
+use Rattle.ytdl_core.specs.Best.{has_video, has_audio, candidates, best_of, worst_of}
+use Rattle.ytdl_core.specs.Selection.{Selection}
 use Rattle.ytdl_core.specs.Stems.{begin_one_another}
+use Rattle.ytdl_core.specs.declared.pick.Pick.{Pick}
+use Rattle.ytdl_core.specs.declared.pick.Pick.TheVariants.{Id, Best, Worst}
 
 -- every byte may stand in a file name
 abbrev pub fits_a_name : List ℕ → Bool
@@ -51,12 +56,25 @@ abbrev pub choice_of : Option Format → Choice
 choice_of None = nothing
 choice_of (Some format) = one format
 
--- the format with the id that was given; without one the only format, if it has a stream
-abbrev pub chosen : Option (List ℕ) → List Format → Choice
-chosen (Some id) formats = choice_of (find (λ format. bytes_eq format.id id) formats)
-chosen None [] = nothing
-chosen None (format ∷ []) = if has_video_of format.tree || has_audio_of format.tree then one format else nothing
-chosen None (first ∷ second ∷ rest) = open_choice
+-- the only format, if it has a stream
+abbrev pub only : List Format → Choice
+only [] = nothing
+only (format ∷ []) = if has_video format || has_audio format then one format else nothing
+only (first ∷ second ∷ rest) = open_choice
+
+-- the format with the id that was given, or the best or the worst that comes into question
+abbrev pub picked : Wish → Pick → List Format → Option Format
+picked wish (Id id) formats = find (λ format. bytes_eq format.id id) formats
+picked wish Best formats = best_of wish (candidates formats)
+picked wish Worst formats = worst_of wish (candidates formats)
+
+-- the format that a word chose; without one the only format
+abbrev pub choice_by : Wish → Option Pick → List Format → Choice
+choice_by wish None formats = only formats
+choice_by wish (Some pick) formats = choice_of (picked wish pick formats)
+
+abbrev pub chosen : Selection → List Format → Choice
+chosen selection formats = choice_by selection.wish selection.pick formats
 
 -- the entry of an item by itself
 abbrev pub entry_of_choice : Item → Choice → Entry
@@ -64,8 +82,8 @@ entry_of_choice item (one format) = titled (text_at item.tree (codes "title")) i
 entry_of_choice item nothing = NoFormat
 entry_of_choice item open_choice = NotBuilt
 
-abbrev pub own_entry : Option (List ℕ) → Item → Entry
-own_entry choice item = entry_of_choice item (chosen choice item.formats)
+abbrev pub own_entry : Selection → Item → Entry
+own_entry selection item = entry_of_choice item (chosen selection item.formats)
 
 -- whether an earlier entry bars a name with this stem: it was not built, or one of the two stems begins the other
 abbrev pub bars : List ℕ → Entry → Bool
@@ -103,5 +121,5 @@ all_behind earlier [] = []
 all_behind earlier (own ∷ rest) = behind earlier own ∷ all_behind (earlier ++ behind earlier own ∷ []) rest
 
 -- the entries of items, one for each
-abbrev pub entries_of : Option (List ℕ) → List Item → List Entry
-entries_of choice items = all_behind [] (map (own_entry choice) items)
+abbrev pub entries_of : Selection → List Item → List Entry
+entries_of selection items = all_behind [] (map (own_entry selection) items)

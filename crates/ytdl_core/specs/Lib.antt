@@ -1,3 +1,5 @@
+pub mod Best
+pub mod Better
 pub mod Chosen
 pub mod Entry
 pub mod Faults
@@ -13,7 +15,10 @@ pub mod Plan
 pub mod Reading
 pub mod Report
 pub mod Run
+pub mod Selection
 pub mod Settings
+pub mod SortFaults
 pub mod Stems
 pub mod Uses
+pub mod Views
 pub mod Words

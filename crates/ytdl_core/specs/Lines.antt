@@ -14,7 +14,7 @@ use Rattle.ytdl_core.specs.declared.run_fault.InfoFault.{InfoFault}
 use Rattle.ytdl_core.specs.declared.run_fault.InfoFault.TheVariants.{Tree, Item}
 use Rattle.ytdl_core.specs.declared.run_fault.RunFault.{RunFault}
 use Rattle.ytdl_core.specs.declared.run_fault.RunFault.TheVariants.{Options as Words, Info, InfoRead, Write, OutOfMemory}
-use Rattle.ytdl_core.specs.declared.options.Options.{Options}
+use Rattle.ytdl_core.specs.Settings.{Options}
 use Rattle.ytdl_core.specs.Outside.{AppendsFront}
 use Rattle.ytdl_core.specs.declared.entry.Entry.{Entry}
 use Rattle.ytdl_core.specs.declared.entry.Entry.TheVariants as entry
@@ -100,6 +100,7 @@ abbrev pub option_text : OptionFault → List ℕ
 option_text option.Unknown = codes "unknown option"
 option_text option.NeedsValue = codes "value missing"
 option_text option.BadValue = codes "bad value"
+option_text (option.Sort fault) = codes "bad sort field"
 option_text option.NoInfo = codes "no --load-info-json"
 option_text option.Extra = codes "unexpected word"
 option_text option.TakesNone = codes "takes no value"

@@ -3,8 +3,8 @@ use Rattle.std.specs.Prelude.{ℕ, List, [], ◌∷◌, Bool, true, false, Optio
 use Rattle.std.specs.List.{list_any}
 use Rattle.std.specs.Option.{option_map}
 use Rattle.std.specs.Str.{bytes_eq}
-use Rattle.ytdl_core.specs.declared.meaning.Flag.TheVariants.{Simulate, Quiet}
-use Rattle.ytdl_core.specs.declared.meaning.Valued.TheVariants.{Info, Format, Print}
+use Rattle.ytdl_core.specs.declared.meaning.Flag.TheVariants.{Simulate, Quiet, Force, Free}
+use Rattle.ytdl_core.specs.declared.meaning.Valued.TheVariants.{Info, Format, Sort, Print}
 use Rattle.ytdl_core.specs.declared.meaning.Meaning.{Meaning}
 use Rattle.ytdl_core.specs.declared.meaning.Meaning.TheVariants.{Flag, Value, NotBuilt}
 
@@ -23,11 +23,11 @@ table =
     row (codes "--load-info-json" ∷ []) (Value Info) ∷
     row (codes "--selftest" ∷ []) NotBuilt ∷
     row (codes "-f" ∷ codes "--format" ∷ []) (Value Format) ∷
-    row (codes "-S" ∷ codes "--format-sort" ∷ []) NotBuilt ∷
-    row (codes "--format-sort-force" ∷ codes "--S-force" ∷ []) NotBuilt ∷
-    row (codes "--no-format-sort-force" ∷ []) NotBuilt ∷
-    row (codes "--prefer-free-formats" ∷ []) NotBuilt ∷
-    row (codes "--no-prefer-free-formats" ∷ []) NotBuilt ∷
+    row (codes "-S" ∷ codes "--format-sort" ∷ []) (Value Sort) ∷
+    row (codes "--format-sort-force" ∷ codes "--S-force" ∷ []) (Flag (Force true)) ∷
+    row (codes "--no-format-sort-force" ∷ []) (Flag (Force false)) ∷
+    row (codes "--prefer-free-formats" ∷ []) (Flag (Free true)) ∷
+    row (codes "--no-prefer-free-formats" ∷ []) (Flag (Free false)) ∷
     row (codes "--video-multistreams" ∷ []) NotBuilt ∷
     row (codes "--no-video-multistreams" ∷ []) NotBuilt ∷
     row (codes "--audio-multistreams" ∷ []) NotBuilt ∷

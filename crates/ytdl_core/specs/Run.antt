@@ -15,7 +15,8 @@ use Rattle.ytdl_core.specs.declared.run_fault.RunFault.{RunFault}
 use Rattle.ytdl_core.specs.declared.run_fault.RunFault.TheVariants.{Options as Words, Info, InfoRead, Write, OutOfMemory}
 use Rattle.ytdl_core.specs.declared.report.Report.{Report}
 use Rattle.ytdl_core.specs.Outside.{File, AppendsFront}
-use Rattle.ytdl_core.specs.declared.options.Options.{Options}
+use Rattle.ytdl_core.specs.Selection.{Selection}
+use Rattle.ytdl_core.specs.Settings.{Options}
 use Rattle.ytdl_core.specs.declared.run_fault.OptionFault.{OptionFault}
 use Rattle.ytdl_core.specs.declared.words_fault.WordsFault.TheVariants.{Bad}
 use Rattle.ytdl_core.specs.Words.{Asks, words_of}
@@ -51,11 +52,11 @@ pub record OfFaultyFile (words : List (List ℕ)) (told : Option File) (fault : 
   pub asks : Asks words options
   pub file : OfFile options told (λ bytes. HaveFault bytes fault)
 
--- The entries are those of a choice over the items that the bytes have.
-pub record HaveEntries (entries : List Entry) (choice : Option (List ℕ)) (bytes : List ℕ) : Type 0 where
+-- The entries are those of a selection over the items that the bytes have.
+pub record HaveEntries (entries : List Entry) (selection : Selection) (bytes : List ℕ) : Type 0 where
   pub items : List PlainItem
   pub have : HaveItems bytes items
-  pub are : entries ≡ entries_of choice items
+  pub are : entries ≡ entries_of selection items
 
 -- The word that is blamed is the first at fault, and words with a fault are blamed, unless memory ran out.
 pub record IsOfWords {T : Type 0} (words : List (List ℕ)) (result : Result T RunFault) : Type 0 where
@@ -68,7 +69,7 @@ pub record IsReported (words : List (List ℕ)) (told : Option File) (out out_no
   pub options : Options
   pub asks : Asks words options
   pub entries : List Entry
-  pub are_entries : OfFile options told (HaveEntries entries options.choice)
+  pub are_entries : OfFile options told (HaveEntries entries options.selection)
   pub ends : report.ends.items ≡ ends_of 0 entries
   pub lines : Sends (lines_of options 1 entries) out out_now err err_now
 
@@ -103,7 +104,7 @@ pub record SendsFront (words : List (List ℕ)) (told : Option File) (out out_no
   pub options : Options
   pub asks : Asks words options
   pub entries : List Entry
-  pub are_entries : OfFile options told (HaveEntries entries options.choice)
+  pub are_entries : OfFile options told (HaveEntries entries options.selection)
   pub front : SendsSome (lines_of options 1 entries) out out_now err err_now
 
 -- Nothing was written but the line of a fault to standard error, whole unless that sink failed or was out of memory.
@@ -163,11 +164,11 @@ IsFaultOfBytes bytes InfoRead = ⊥
 IsFaultOfBytes bytes (Write which) = ⊥
 IsFaultOfBytes bytes OutOfMemory = Unit {0}
 
--- The entries are those of a choice over the items that the tree has.
-pub record HasEntries (entries : List Entry) (choice : Option (List ℕ)) (tree : Plain) : Type 0 where
+-- The entries are those of a selection over the items that the tree has.
+pub record HasEntries (entries : List Entry) (selection : Selection) (tree : Plain) : Type 0 where
   pub items : List PlainItem
   pub has : items_of tree ≡ Ok items
-  pub are : entries ≡ entries_of choice items
+  pub are : entries ≡ entries_of selection items
 
 -- the tree has this fault, or memory ran out
 abbrev pub IsFaultOfTree : Plain → RunFault → Type 0

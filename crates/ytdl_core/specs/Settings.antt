@@ -1,24 +1,45 @@
--- What uses of options set: of repeats the last stands, and prints are counted.
-use Rattle.std.specs.Prelude.{ℕ, ◌+◌, List, [], ◌∷◌, true, nat_lt, if◌then◌else◌, Option, Some, None, unwrap_or, Result, Ok, Err, codes}
-use Rattle.std.specs.Char.{is_ascii_digit}
-use Rattle.std.specs.List.{list_all}
+-- What uses of options set: of repeats the last stands, prints are counted, and sort words are gathered.
+use Rattle.std.specs.Prelude.{ℕ, ◌+◌, List, [], ◌∷◌, ◌++◌, length, Bool, true, false, nat_lt, if◌then◌else◌, Option, Some, None, is_some, unwrap_or, Result, Ok, Err, codes}
 use Rattle.std.specs.Option.{option_map, option_or}
 use Rattle.std.specs.Str.{bytes_eq}
-use Rattle.ytdl_core.specs.declared.meaning.Flag.TheVariants.{Simulate, Quiet}
+use Rattle.fmt_sort.specs.Reading.{pieces_of, pieces_fields, wish_for}
+use Rattle.fmt_sort.specs.Spec.{Wanted, Wish}
+use Rattle.fmt_sort.specs.declared.sort_fault.SortFault.{SortFault}
+use Rattle.ytdl_core.specs.declared.meaning.Flag.TheVariants.{Simulate, Quiet, Force, Free}
 use Rattle.ytdl_core.specs.declared.meaning.Valued.{Valued}
-use Rattle.ytdl_core.specs.declared.meaning.Valued.TheVariants.{Info, Format, Print}
+use Rattle.ytdl_core.specs.declared.meaning.Valued.TheVariants.{Info, Format, Sort, Print}
+use Rattle.ytdl_core.specs.declared.pick.Pick.{Pick}
 use Rattle.ytdl_core.specs.declared.run_fault.OptionFault.{OptionFault}
-use Rattle.ytdl_core.specs.declared.run_fault.OptionFault.TheVariants.{BadValue, NoInfo, NotBuilt}
+use Rattle.ytdl_core.specs.declared.run_fault.OptionFault.TheVariants.{BadValue, Sort as BadSort, NoInfo, NotBuilt}
 use Rattle.ytdl_core.specs.declared.words_fault.WordsFault.{WordsFault}
 use Rattle.ytdl_core.specs.declared.words_fault.WordsFault.TheVariants.{Bad}
-use Rattle.ytdl_core.specs.declared.options.Options.{Options}
-use Rattle.ytdl_core.specs.declared.settings.Settings.{Settings}
+use Rattle.ytdl_core.specs.Selection.{Selection, pick_of}
 use Rattle.ytdl_core.specs.Uses.{Use, turned, given}
 
--- an id of digits is built, other choices are not
+-- what uses have set: the file, which format is chosen, the sort words with how many pieces they have, the prints, and each flag
+pub record Settings : Type 0 where
+  pub info : Option (List ℕ)
+  pub pick : Option Pick
+  pub sort : List (List ℕ)
+  pub pieces : ℕ
+  pub force : Option Bool
+  pub free : Option Bool
+  pub prints : ℕ
+  pub simulate : Option Bool
+  pub quiet : Option Bool
+
+-- what words ask for
+pub record Options : Type 0 where
+  pub info : List ℕ
+  pub selection : Selection
+  pub prints : ℕ
+  pub simulate : Bool
+  pub quiet : Bool
+
+-- ids of digits, the best and the worst are built, other choices are not
 abbrev pub fault_of_choice : List ℕ → Option OptionFault
 fault_of_choice [] = Some BadValue
-fault_of_choice (b ∷ bs) = if list_all is_ascii_digit (b ∷ bs) then None else Some NotBuilt
+fault_of_choice (b ∷ bs) = if is_some (pick_of (b ∷ bs)) then None else Some NotBuilt
 
 -- a file has a name
 abbrev pub fault_of_file : List ℕ → Option OptionFault
@@ -29,39 +50,56 @@ fault_of_file (b ∷ bs) = None
 abbrev pub fault_of_print : List ℕ → Option OptionFault
 fault_of_print value = if bytes_eq value (codes "filename") then None else Some NotBuilt
 
--- why an option may not have this value
-abbrev pub fault_of_value : Valued → List ℕ → Option OptionFault
-fault_of_value Info value = fault_of_file value
-fault_of_value Format value = fault_of_choice value
-fault_of_value Print value = fault_of_print value
+abbrev pub fault_of_fields : Result (List Wanted) SortFault → Option OptionFault
+fault_of_fields (Ok fields) = None
+fault_of_fields (Err fault) = Some (BadSort fault)
+
+-- a sort word has its first faulty piece; pieces are counted on from those of earlier words, and free formats change no fault
+abbrev pub fault_of_sort : ℕ → List ℕ → Option OptionFault
+fault_of_sort pieces [] = Some BadValue
+fault_of_sort pieces (b ∷ bs) = fault_of_fields (pieces_fields false pieces (pieces_of (b ∷ bs)))
+
+-- why an option may not have this value, behind sort words of so many pieces
+abbrev pub fault_of_value : ℕ → Valued → List ℕ → Option OptionFault
+fault_of_value pieces Info value = fault_of_file value
+fault_of_value pieces Format value = fault_of_choice value
+fault_of_value pieces Sort value = fault_of_sort pieces value
+fault_of_value pieces Print value = fault_of_print value
 
 -- the fault of a use stands at the option's own word
-abbrev pub use_fault : Use → Option WordsFault
-use_fault (turned flag) = None
-use_fault (given place option value) = option_map (λ fault. Bad place fault) (fault_of_value option value)
-
--- the fault of the first use that has one
-abbrev pub first_fault : List Use → Option WordsFault
-first_fault [] = None
-first_fault (first ∷ rest) = option_or (use_fault first) (first_fault rest)
+abbrev pub use_fault : ℕ → Use → Option WordsFault
+use_fault pieces (turned flag) = None
+use_fault pieces (given place option value) = option_map (λ fault. Bad place fault) (fault_of_value pieces option value)
 
 -- nothing is set
 abbrev pub no_settings : Settings
-no_settings = record { info = None; choice = None; prints = 0; simulate = None; quiet = None }
+no_settings = record { info = None; pick = None; sort = []; pieces = 0; force = None; free = None; prints = 0; simulate = None; quiet = None }
 
 -- what one use sets
 abbrev pub setting_of : Use → Settings
 setting_of (turned (Simulate on)) = record no_settings { simulate = Some on }
 setting_of (turned (Quiet on)) = record no_settings { quiet = Some on }
+setting_of (turned (Force on)) = record no_settings { force = Some on }
+setting_of (turned (Free on)) = record no_settings { free = Some on }
 setting_of (given place Info file) = record no_settings { info = Some file }
-setting_of (given place Format id) = record no_settings { choice = Some id }
+setting_of (given place Format value) = record no_settings { pick = pick_of value }
+setting_of (given place Sort word) = record no_settings { sort = word ∷ []; pieces = length (pieces_of word) }
 setting_of (given place Print field) = record no_settings { prints = 1 }
+
+-- the fault of the first use that has one, behind sort words of so many pieces
+abbrev pub first_fault : ℕ → List Use → Option WordsFault
+first_fault pieces [] = None
+first_fault pieces (first ∷ rest) = option_or (use_fault pieces first) (first_fault (pieces + (setting_of first).pieces) rest)
 
 -- later settings over earlier ones
 abbrev pub over : Settings → Settings → Settings
 over late early = record {
   info = option_or late.info early.info;
-  choice = option_or late.choice early.choice;
+  pick = option_or late.pick early.pick;
+  sort = early.sort ++ late.sort;
+  pieces = early.pieces + late.pieces;
+  force = option_or late.force early.force;
+  free = option_or late.free early.free;
   prints = early.prints + late.prints;
   simulate = option_or late.simulate early.simulate;
   quiet = option_or late.quiet early.quiet;
@@ -72,13 +110,27 @@ abbrev pub settings_of : List Use → Settings
 settings_of [] = no_settings
 settings_of (first ∷ rest) = over (settings_of rest) (setting_of first)
 
--- the options for a file of information: a print simulates and is quiet, unless words say otherwise
+-- how formats are sorted by the words that are set: none is forced and no free format is preferred, unless words say so
+abbrev pub wish_of_settings : Settings → Result Wish SortFault
+wish_of_settings settings = wish_for (unwrap_or settings.force false) (unwrap_or settings.free false) settings.sort
+
+-- the options for a file of information and an order of formats; a print is quiet, unless words say otherwise.
+-- Sort words without a fault of their own give an order.
+abbrev pub with_wish : ℕ → Settings → List ℕ → Result Wish SortFault → Result Options WordsFault
+with_wish total settings info (Err fault) = Err (Bad total (BadSort fault))
+with_wish total settings info (Ok wish) = Ok (record {
+  info = info;
+  selection = record { pick = settings.pick; wish = wish };
+  prints = settings.prints;
+  simulate = true;
+  quiet = unwrap_or settings.quiet (nat_lt 0 settings.prints);
+})
+
+-- the options for a file of information: a print simulates, unless words say otherwise
 abbrev pub with_info : ℕ → Settings → Option (List ℕ) → Result Options WordsFault
 with_info total settings None = Err (Bad total NoInfo)
 with_info total settings (Some info) =
-    let prints = nat_lt 0 settings.prints in
-    if unwrap_or settings.simulate prints then
-    Ok (record { info = info; choice = settings.choice; prints = settings.prints; simulate = true; quiet = unwrap_or settings.quiet prints })
+    if unwrap_or settings.simulate (nat_lt 0 settings.prints) then with_wish total settings info (wish_of_settings settings)
     else Err (Bad total NotBuilt)
 
 -- the options that are set at the end of so many words, where nothing is missing and a command is built

@@ -1,19 +1,22 @@
 -- What words ask for: the fault of the first word that has one, or the options that they set.
-use Rattle.std.specs.Prelude.{◌≡◌, ℕ, ◌-◌, List, length, Result, Ok}
+use Rattle.std.specs.Prelude.{◌≡◌, ℕ, ◌-◌, List, length, None, Result, Ok}
+use Rattle.std.specs.Result.{IsOk}
 use Rattle.std.specs.Option.{option_or}
-use Rattle.ytdl_core.specs.declared.options.Options.{Options}
-use Rattle.ytdl_core.specs.declared.settings.Settings.{Settings}
 use Rattle.ytdl_core.specs.declared.words_fault.WordsFault.{WordsFault}
 use Rattle.ytdl_core.specs.Uses.{Reading, reading}
-use Rattle.ytdl_core.specs.Settings.{first_fault, settings_of, over, ended, unless_fault}
+use Rattle.ytdl_core.specs.Settings.{Options, Settings, first_fault, settings_of, over, ended, unless_fault, wish_of_settings}
 
 -- the first fault of what so many words read as, or their options
 abbrev pub answer_of : ℕ → Reading → Result Options WordsFault
-answer_of total read = unless_fault (option_or (first_fault read.uses) read.fault) (ended total (settings_of read.uses))
+answer_of total read = unless_fault (option_or (first_fault 0 read.uses) read.fault) (ended total (settings_of read.uses))
 
 -- what all the words ask for
 unfoldable pub words_of : List (List ℕ) → Result Options WordsFault
 words_of words = answer_of (length words) (reading 0 words)
+
+-- Where no use is at fault, the sort words name an order: a preference of free formats, which may come later, brings no fault.
+abbrev pub HaveAnOrder : List (List ℕ) → Type 0
+HaveAnOrder words = first_fault 0 (reading 0 words).uses ≡ None → IsOk (wish_of_settings (settings_of (reading 0 words).uses))
 
 -- the words ask for these options
 abbrev pub Asks : List (List ℕ) → Options → Type 0
@@ -22,7 +25,7 @@ Asks words options = words_of words ≡ Ok options
 -- the answer of what so many words read as, where earlier ones have set something already
 abbrev pub continued : Settings → ℕ → Reading → Result Options WordsFault
 continued early total read =
-    unless_fault (option_or (first_fault read.uses) read.fault) (ended total (over (settings_of read.uses) early))
+    unless_fault (option_or (first_fault early.pieces read.uses) read.fault) (ended total (over (settings_of read.uses) early))
 
 -- the answer of so many words of which these are the last, where those before have set something already
 unfoldable pub rest_of : Settings → ℕ → List (List ℕ) → Result Options WordsFault

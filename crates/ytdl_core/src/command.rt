@@ -1,9 +1,9 @@
 ghost use Rattle.std.specs.Prelude.{◌≡◌, ◌↔◌, ◌≤◌, ℕ, false, Err, IfOk, IfErr};
 ghost use Rattle.ytdl_core.specs.declared.run_fault.Which.TheVariants as which;
-ghost use Rattle.std.specs.Option.{option_copied};
 ghost use Rattle.info_tree.specs.Plain.{plain};
 ghost use Rattle.ytdl_core.specs.Lines.{fault_line, TellsLine};
 ghost use Rattle.ytdl_core.specs.Run.{HasEntries, HaveEntries, IsExact, IsExactOf, IsFaultOfTree, IsOfWords, IsRead, IsReported, IsTold, IsUntold, SinkFails, SourceFails};
+ghost use Rattle.ytdl_core.specs.Views.{plain_selection};
 
 use crate::entry::{Entry, entries};
 use crate::fault_line::fault_line;
@@ -11,6 +11,7 @@ use crate::lines::pieces;
 use crate::reading::read_file;
 use crate::report::{Report, report_of};
 use crate::run_fault::RunFault;
+use crate::selection::Selection;
 use crate::sink::Sink;
 use crate::source::InfoSource;
 use crate::words::read_words;
@@ -103,7 +104,7 @@ fn answer<I: InfoSource, O: Sink, E: Sink>(
         Err(WordsFault::OutOfMemory) => return Err(RunFault::OutOfMemory),
     };
     let bytes = read_file(alloc, info, options.info.as_str())?;
-    let entries = read_entries(alloc, options.choice(), &bytes)?;
+    let entries = read_entries(alloc, &options.selection, &bytes)?;
     let report = report_of(alloc, &entries)?;
     let pieces = pieces(alloc, &options, &entries)?;
     write(&pieces, out, err)?;
@@ -111,21 +112,21 @@ fn answer<I: InfoSource, O: Sink, E: Sink>(
 }
 
 /// The entries of the items that an information file has, by its bytes.
-fn read_entries(alloc: Global, choice: Option<&str>, bytes: &[u8]) -> Result<Vec<Entry>, RunFault>
+fn read_entries(alloc: Global, selection: &Selection, bytes: &[u8]) -> Result<Vec<Entry>, RunFault>
     ensures entries { IfOk result (λ entries.
-        HaveEntries entries.items (option_copied choice.entry) bytes.now) }
+        HaveEntries entries.items (plain_selection selection.now) bytes.now) }
     ensures exact { IsExactOf bytes.now result }
 {
     let tree = read_tree(alloc, bytes)?;
-    tree_entries(alloc, choice, &tree)
+    tree_entries(alloc, selection, &tree)
 }
 
 /// The entries of the items that a tree has.
-fn tree_entries(alloc: Global, choice: Option<&str>, tree: &Tree) -> Result<Vec<Entry>, RunFault>
+fn tree_entries(alloc: Global, selection: &Selection, tree: &Tree) -> Result<Vec<Entry>, RunFault>
     ensures entries { IfOk result (λ entries.
-        HasEntries entries.items (option_copied choice.entry) (plain tree.now)) }
+        HasEntries entries.items (plain_selection selection.now) (plain tree.now)) }
     ensures fault { IfErr result (IsFaultOfTree (plain tree.now)) }
 {
     let items = read_items(alloc, tree)?;
-    Ok(entries(alloc, choice, &items)?)
+    Ok(entries(alloc, selection, &items)?)
 }

@@ -5,8 +5,10 @@ ghost use Rattle.info_item.specs.Fields.{text_at};
 ghost use Rattle.info_tree.specs.Plain.{plain};
 ghost use Rattle.ytdl_core.specs.Entry.{fits_a_name, is_short_word, is_word_byte, is_plain_format, is_plain_stem, titled, own_entry, stem_of, shut, entries_of};
 ghost use Rattle.ytdl_core.specs.Chosen.{chosen_of};
+ghost use Rattle.ytdl_core.specs.Views.{plain_selection};
 
 use crate::choice::{Choice, choose};
+use crate::selection::Selection;
 use crate::stems::built_before;
 use info_item::{Format, Item};
 use info_tree::Tree;
@@ -25,12 +27,12 @@ pub enum Entry {
 /// The entries of items, one for each.
 pub fn entries(
     alloc: Global,
-    choice: Option<&str>,
+    selection: &Selection,
     items: &[Item],
 ) -> Result<Vec<Entry>, OutOfMemory>
-    ensures { IfOk result (λ entries. entries.items ≡ entries_of (option_copied choice.entry) items.now) }
+    ensures { IfOk result (λ entries. entries.items ≡ entries_of (plain_selection selection.now) items.now) }
 {
-    let own = own_entries(alloc, choice, items)?;
+    let own = own_entries(alloc, selection, items)?;
     let place = built_before(alloc, &own)?;
     Ok(shut_from(alloc, own, place)?)
 }
@@ -38,14 +40,14 @@ pub fn entries(
 /// The entries of items, each by itself.
 fn own_entries(
     alloc: Global,
-    choice: Option<&str>,
+    selection: &Selection,
     items: &[Item],
 ) -> Result<Vec<Entry>, OutOfMemory>
-    ensures { IfOk result (λ entries. entries.items ≡ map (own_entry (option_copied choice.entry)) items.now) }
+    ensures { IfOk result (λ entries. entries.items ≡ map (own_entry (plain_selection selection.now)) items.now) }
 {
     let mut entries = Vec::new(alloc);
     for item in items {
-        let own = own_entry(alloc, choice, item)?;
+        let own = own_entry(alloc, selection, item)?;
         entries.push(own)?;
     }
     Ok(entries)
@@ -72,10 +74,10 @@ fn shut(entry: Entry) -> Entry
 }
 
 /// The entry of an item by itself.
-fn own_entry(alloc: Global, choice: Option<&str>, item: &Item) -> Result<Entry, OutOfMemory>
-    ensures { IfOk result (λ entry. entry ≡ own_entry (option_copied choice.entry) item.now) }
+fn own_entry(alloc: Global, selection: &Selection, item: &Item) -> Result<Entry, OutOfMemory>
+    ensures { IfOk result (λ entry. entry ≡ own_entry (plain_selection selection.now) item.now) }
 {
-    match choose(choice, item.formats()) {
+    match choose(selection, item.formats()) {
         Choice::One(format) => titled(alloc, title_of(item), item.id(), format),
         Choice::Nothing => Ok(Entry::NoFormat),
         Choice::Open => Ok(Entry::NotBuilt),

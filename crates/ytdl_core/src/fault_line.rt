@@ -48,6 +48,7 @@ fn option_text(option: OptionFault) -> &'static str
         OptionFault::Unknown => "unknown option",
         OptionFault::NeedsValue => "value missing",
         OptionFault::BadValue => "bad value",
+        OptionFault::Sort(_) => "bad sort field",
         OptionFault::NoInfo => "no --load-info-json",
         OptionFault::Extra => "unexpected word",
         OptionFault::TakesNone => "takes no value",

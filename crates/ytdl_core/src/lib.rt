@@ -1,6 +1,7 @@
 //! The words of the command line and the top call, over any source of information and any sinks.
 #![tactic(auto)]
 
+mod best;
 mod call_plan;
 mod choice;
 mod command;
@@ -12,9 +13,11 @@ mod lines;
 mod meaning;
 mod option_table;
 mod options;
+mod pick;
 mod reading;
 mod report;
 mod run_fault;
+mod selection;
 mod settings;
 mod sink;
 mod sink_mem;
@@ -27,8 +30,10 @@ mod writing;
 pub use command::run;
 pub use info_mem::InfoMem;
 pub use options::Options;
+pub use pick::Pick;
 pub use report::{End, JobEnd, JobFault, Report, status};
 pub use run_fault::{InfoFault, OptionFault, RunFault, Which};
+pub use selection::Selection;
 pub use sink::Sink;
 pub use sink_mem::SinkMem;
 pub use source::InfoSource;

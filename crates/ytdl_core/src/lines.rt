@@ -2,6 +2,7 @@ ghost use Rattle.std.specs.Prelude.{◌≡◌, ◌+◌, ◌++◌, ◌<◌, ◌^�
 ghost use Rattle.std.specs.String.{string_bytes};
 ghost use Rattle.ytdl_core.specs.Lines.{line_of, lines_of, name_line, name_lines, all_to};
 ghost use Rattle.ytdl_core.specs.Pieces.{script_of};
+ghost use Rattle.ytdl_core.specs.Views.{plain_options};
 
 use crate::entry::Entry;
 use crate::options::Options;
@@ -22,7 +23,7 @@ pub fn pieces(
     options: &Options,
     entries: &[Entry],
 ) -> Result<Vec<Piece>, OutOfMemory>
-    ensures { IfOk result (λ pieces. script_of pieces.items ≡ lines_of options.now 1 entries.now) }
+    ensures { IfOk result (λ pieces. script_of pieces.items ≡ lines_of (plain_options options.now) 1 entries.now) }
 {
     let mut pieces = Vec::new(alloc);
     for (place, entry) in entries.iter().enumerate() {
@@ -59,7 +60,7 @@ fn line(
     entry: &Entry,
 ) -> Result<Piece, OutOfMemory>
     ensures { IfOk result (λ piece. all_to piece.which (string_bytes piece.bytes) ≡
-        line_of options.now number entry.now) }
+        line_of (plain_options options.now) number entry.now) }
 {
     match entry {
         Entry::Shown { stem, extension } => Ok(Piece {
@@ -85,7 +86,7 @@ fn name_lines(
     extension: &str,
 ) -> Result<String, AllocError>
     ensures { IfOk result (λ lines. string_bytes lines ≡
-        name_lines options.now (name_line stem.now extension.now)) }
+        name_lines (plain_options options.now) (name_line stem.now extension.now)) }
 {
     let mut lines = String::new(alloc);
     for _print in 0..options.prints {

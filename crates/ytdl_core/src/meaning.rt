@@ -3,6 +3,10 @@
 pub enum Flag {
     Simulate(bool),
     Quiet(bool),
+    /// Whether the given sort fields come before all others.
+    Force(bool),
+    /// Whether extensions of free formats are preferred.
+    Free(bool),
 }
 
 /// An option with a value.
@@ -12,6 +16,8 @@ pub enum Valued {
     Info,
     /// Which format is chosen.
     Format,
+    /// How formats are sorted.
+    Sort,
     /// What is printed for each item.
     Print,
 }

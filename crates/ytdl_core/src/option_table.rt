@@ -28,23 +28,23 @@ const OPTIONS: [OptionRow; 44] = [
     },
     OptionRow {
         names: &["-S", "--format-sort"],
-        meaning: Meaning::NotBuilt,
+        meaning: Meaning::Value(Valued::Sort),
     },
     OptionRow {
         names: &["--format-sort-force", "--S-force"],
-        meaning: Meaning::NotBuilt,
+        meaning: Meaning::Flag(Flag::Force(true)),
     },
     OptionRow {
         names: &["--no-format-sort-force"],
-        meaning: Meaning::NotBuilt,
+        meaning: Meaning::Flag(Flag::Force(false)),
     },
     OptionRow {
         names: &["--prefer-free-formats"],
-        meaning: Meaning::NotBuilt,
+        meaning: Meaning::Flag(Flag::Free(true)),
     },
     OptionRow {
         names: &["--no-prefer-free-formats"],
-        meaning: Meaning::NotBuilt,
+        meaning: Meaning::Flag(Flag::Free(false)),
     },
     OptionRow {
         names: &["--video-multistreams"],

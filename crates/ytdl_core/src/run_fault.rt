@@ -1,3 +1,4 @@
+use fmt_sort::SortFault;
 use info_item::ItemFault;
 use info_tree::TreeFault;
 use std::alloc::AllocError;
@@ -11,6 +12,8 @@ pub enum OptionFault {
     /// The words end where the option's value should stand.
     NeedsValue,
     BadValue,
+    /// A piece of a sort word; pieces count from 0 over all sort words up to there.
+    Sort(SortFault),
     /// No word names the file of information.
     NoInfo,
     /// It is no option and no value of one.

@@ -26,6 +26,23 @@ const THREE: &str = r#"[{"id":1,"title":"Größe 日本","formats":[{"format_id"
     {"id":"2","title":"t","formats":[{"format_id":"7","ext":"mp4","url":"u"}]},
     {"id":1,"title":"Größe 日本","formats":[{"format_id":136,"ext":"mp4","url":"u"}]}]"#;
 
+/// Three formats with both streams.
+const SIZES: &str = r#"{"id":"i","title":"T","formats":[
+    {"format_id":"a","ext":"aaa","width":854,"height":480,"url":"u"},
+    {"format_id":"b","ext":"bbb","width":1920,"height":1080,"url":"u"},
+    {"format_id":"c","ext":"ccc","width":3840,"height":2160,"url":"u"}]}"#;
+
+/// Formats of which none has video, and the last has no stream.
+const AUDIO: &str = r#"{"id":"i","title":"T","formats":[
+    {"format_id":"a","ext":"aaa","vcodec":"none","abr":64,"url":"u"},
+    {"format_id":"b","ext":"bbb","vcodec":"none","abr":128,"url":"u"},
+    {"format_id":"c","ext":"ccc","vcodec":"none","acodec":"none","abr":256,"url":"u"}]}"#;
+
+/// A format with video and one with audio.
+const APART: &str = r#"{"id":"i","title":"T","formats":[
+    {"format_id":"a","ext":"aaa","vcodec":"none","url":"u"},
+    {"format_id":"b","ext":"bbb","acodec":"none","url":"u"}]}"#;
+
 fn texts(alloc: Global, words: &[&str]) -> Result<Vec<Text>, OutOfMemory> {
     let mut texts = Vec::new(alloc);
     for word in words {
@@ -96,7 +113,7 @@ fn faults_have_their_places(rt: HostRuntime) -> Result<(), Fail> {
         ONE,
         ("", "ERROR: word 1: no --load-info-json\n", 2),
     )?;
-    let letters = [NAME[0], NAME[1], NAME[2], NAME[3], "-f", "b"];
+    let letters = [NAME[0], NAME[1], NAME[2], NAME[3], "-f", "bv"];
     answers(
         &rt,
         rt.alloc(),
@@ -154,4 +171,42 @@ fn planned_calls_fail(rt: HostRuntime) -> Result<(), Fail> {
     );
     assert_eq!(rt; out.bytes(), [].as_slice());
     Ok(())
+}
+
+#[test]
+fn the_best_and_the_worst_are_chosen(rt: HostRuntime) -> Result<(), Fail> {
+    let alloc = rt.alloc();
+    let (a, b, c) = ("T [i].aaa\n", "T [i].bbb\n", "T [i].ccc\n");
+    let print = "--print=filename";
+    let best = [NAME[0], "i.json", print, "-f", "b"];
+    answers(&rt, alloc, &best, SIZES, (c, "", 0))?;
+    let worst = [NAME[0], "i.json", print, "-f", "w"];
+    answers(&rt, alloc, &worst, SIZES, (a, "", 0))?;
+    let near = [NAME[0], "i.json", print, "-f", "best", "-S", "res:720"];
+    answers(&rt, alloc, &near, SIZES, (a, "", 0))?;
+    let far = [NAME[0], "i.json", print, "-f", "worst", "-S", "res:720"];
+    answers(&rt, alloc, &far, SIZES, (c, "", 0))?;
+    let turned = [
+        NAME[0],
+        "i.json",
+        print,
+        "-f",
+        "b",
+        "-S",
+        "+res",
+        "-Sres~1080",
+    ];
+    answers(&rt, alloc, &turned, SIZES, (b, "", 0))?;
+    let bad = [NAME[0], "i.json", print, "-S", "res,foo"];
+    let line = "ERROR: word 4: bad sort field\n";
+    answers(&rt, alloc, &bad, SIZES, ("", line, 2))
+}
+
+#[test]
+fn one_stream_is_enough_where_none_has_both(rt: HostRuntime) -> Result<(), Fail> {
+    let alloc = rt.alloc();
+    let best = [NAME[0], "i.json", "--print=filename", "-f", "b"];
+    answers(&rt, alloc, &best, AUDIO, ("T [i].bbb\n", "", 0))?;
+    let none = "ERROR: item 1: requested format is not available\n";
+    answers(&rt, alloc, &best, APART, ("", none, 1))
 }

@@ -1,4 +1,5 @@
 use super::*;
+use fmt_sort::{SortFault, SortKey};
 use std::alloc::Global;
 use std::process::Abort;
 use std::test::Fail;
@@ -28,6 +29,16 @@ fn refuses(
     Ok(())
 }
 
+/// The name of the format that is chosen.
+fn named(options: &Options) -> &str {
+    match &options.selection.pick {
+        Some(Pick::Id(id)) => id.as_str(),
+        Some(Pick::Best) => "best",
+        Some(Pick::Worst) => "worst",
+        None => "",
+    }
+}
+
 /// These words ask for this file and format, so many prints, and a quiet run or a loud one.
 fn asks(
     rt: &impl Abort,
@@ -39,11 +50,7 @@ fn asks(
     let texts = texts(alloc, words)?;
     let options = read_words(alloc, &texts)?;
     assert_eq!(rt; options.info.as_str(), file, "{words:?}");
-    assert_eq!(rt;
-        options.choice().unwrap_or(""),
-        wanted.0.unwrap_or(""),
-        "{words:?}"
-    );
+    assert_eq!(rt; named(&options), wanted.0.unwrap_or(""), "{words:?}");
     assert_eq!(rt; options.prints, wanted.1, "{words:?}");
     assert_eq!(rt; options.quiet, wanted.2, "{words:?}");
     assert_eq!(rt; options.simulate, true);
@@ -116,7 +123,6 @@ fn values_are_refused(rt: HostRuntime) -> Result<(), Fail> {
         0,
         OptionFault::NotBuilt,
     )?;
-    refuses(&rt, alloc, &["--S-force"], 0, OptionFault::NotBuilt)?;
     refuses(&rt, alloc, &["-s"], 1, OptionFault::NoInfo)?;
     refuses(&rt, alloc, &[INFO, "i"], 2, OptionFault::NotBuilt)?;
     refuses(&rt, alloc, &[INFO, "--print"], 2, OptionFault::NotBuilt)?;
@@ -210,4 +216,69 @@ fn words_set_options(rt: HostRuntime) -> Result<(), Fail> {
         "i",
         (None, 1, true),
     )
+}
+
+#[test]
+fn sort_words_are_refused(rt: HostRuntime) -> Result<(), Fail> {
+    let alloc = rt.alloc();
+    let field = OptionFault::Sort(SortFault::Field { piece: 0 });
+    refuses(&rt, alloc, &["-Sfoo"], 0, field)?;
+    let second = OptionFault::Sort(SortFault::Field { piece: 3 });
+    let words = [INFO, "i", "-S", "res,fps", "-S", "br,foo", "--bad"];
+    refuses(&rt, alloc, &words, 4, second)?;
+    let limit = OptionFault::Sort(SortFault::Limit { piece: 1 });
+    let words = ["--format-sort=res:720", "--format-sort", "res:x", "-Z"];
+    refuses(&rt, alloc, &words, 1, limit)?;
+    refuses(&rt, alloc, &["-S", "", "-Z"], 0, OptionFault::BadValue)?;
+    refuses(&rt, alloc, &["-Z", "-S", "foo"], 0, OptionFault::Unknown)?;
+    refuses(&rt, alloc, &["--S-force=1"], 0, OptionFault::TakesNone)?;
+    refuses(&rt, alloc, &["-S", "res"], 2, OptionFault::NoInfo)
+}
+
+/// These words choose this format, say this of free formats, and have this field at a place of their order.
+fn orders(
+    rt: &impl Abort,
+    alloc: Global,
+    words: &[&str],
+    wanted: (&str, bool),
+    field: (usize, SortKey),
+) -> Result<(), Fail> {
+    let texts = texts(alloc, words)?;
+    let options = read_words(alloc, &texts)?;
+    assert_eq!(rt; named(&options), wanted.0, "{words:?}");
+    let sort = &options.selection.sort;
+    assert_eq!(rt; sort.free, wanted.1, "{words:?}");
+    let key = sort.fields.get(field.0).map(|field| field.key);
+    assert_eq!(rt; key, Some(field.1), "{words:?}");
+    Ok(())
+}
+
+#[test]
+fn sort_words_set_an_order(rt: HostRuntime) -> Result<(), Fail> {
+    let alloc = rt.alloc();
+    let later = [INFO, "i", "-s", "-S", "res:720,fps", "-S", "br"];
+    orders(&rt, alloc, &later, ("", false), (2, SortKey::Bitrate))?;
+    orders(&rt, alloc, &later, ("", false), (3, SortKey::Resolution))?;
+    let forced = [
+        INFO,
+        "i",
+        "-s",
+        "-Sbr",
+        "--S-force",
+        "--prefer-free-formats",
+        "-fworst",
+    ];
+    orders(&rt, alloc, &forced, ("worst", true), (0, SortKey::Bitrate))?;
+    let off = [
+        INFO,
+        "i",
+        "-s",
+        "-Sbr",
+        "--S-force",
+        "--no-format-sort-force",
+        "--prefer-free-formats",
+        "--no-prefer-free-formats",
+        "-fb",
+    ];
+    orders(&rt, alloc, &off, ("best", false), (0, SortKey::HasVideo))
 }

@@ -1,25 +1,29 @@
-ghost use Rattle.std.specs.Prelude.{◌≡◌, ◌⊎◌, ℕ, ◌+◌, ◌≤◌, ◌<◌, ◌∷◌, length, Err, IfOk, IfErr};
+ghost use Rattle.std.specs.Prelude.{◌≡◌, ◌⊎◌, ℕ, ◌+◌, ◌≤◌, ◌<◌, ◌∷◌, length, Ok, Err, IfOk, IfErr};
 ghost use Rattle.ytdl_core.specs.declared.words_fault.WordsFault.TheVariants as fault;
-ghost use Rattle.ytdl_core.specs.Words.{words_of, rest_of};
+ghost use Rattle.ytdl_core.specs.Views.{plain_settings, plain_options};
+ghost use Rattle.ytdl_core.specs.Words.{words_of, rest_of, HaveAnOrder};
 
 use crate::form::{Form, form_of};
 use crate::options::Options;
 use crate::run_fault::OptionFault;
 use crate::settings::Settings;
-use crate::words_fault::WordsFault;
+use crate::words_fault::{WordsFault, bad};
 use std::alloc::Global;
 use text_base::Text;
 
 /// What the words ask for, or the first word at fault. Want of memory may come at any time.
+#[tactic(auto, using(crate::proofs::SortLemmas::have_an_order))]
 pub fn read_words(alloc: Global, words: &Vec<Text>) -> Result<Options, WordsFault>
-    ensures { (result ≡ words_of words.now.items) ⊎ (result ≡ Err fault.OutOfMemory) }
+    ensures options { IfOk result (λ options. words_of words.now.items ≡ Ok (plain_options options)) }
+    ensures fault { IfErr result (λ e. (e ≡ fault.OutOfMemory) ⊎ (words_of words.now.items ≡ Err e)) }
+    ensures order { HaveAnOrder words.now.items }
 {
-    let mut settings = Settings::new();
+    let mut settings = Settings::new(alloc);
     let mut rest = words.as_slice();
     'words: while let Some((word, behind)) = rest.split_first() {
         rest = read_use(alloc, &mut settings, words.len(), word.as_str(), behind)?;
     }
-    settings.options(words.len())
+    settings.options(alloc, words.len())
 }
 
 /// Reads a word, which stands before the last ones of so many, and what belongs to it. Answers the words behind that.
@@ -33,10 +37,10 @@ fn read_use<'a>(
     requires { settings.old.prints + length behind.now < total }
     ensures prints { IfOk result (λ rest. settings.new.prints + length rest.now ≤ total) }
     ensures less { IfOk result (λ rest. length rest.now ≤ length behind.now) }
-    ensures rest { IfOk result (λ rest. rest_of settings.old total (word.now ∷ behind.now) ≡
-        rest_of settings.new total rest.now) }
+    ensures rest { IfOk result (λ rest. rest_of (plain_settings settings.old) total (word.now ∷ behind.now) ≡
+        rest_of (plain_settings settings.new) total rest.now) }
     ensures fault { IfErr result (λ e. (e ≡ fault.OutOfMemory) ⊎
-        (rest_of settings.old total (word.now ∷ behind.now) ≡ Err e)) }
+        (rest_of (plain_settings settings.old) total (word.now ∷ behind.now) ≡ Err e)) }
 {
     let place = total - behind.len() - 1;
     match form_of(word) {
@@ -54,13 +58,4 @@ fn read_use<'a>(
         Form::Faulty(fault) => return Err(bad(place, fault)),
     }
     Ok(behind)
-}
-
-fn bad(word: usize, option: OptionFault) -> WordsFault
-    ensures { result ≡ fault.Bad word option }
-{
-    WordsFault::Bad {
-        word,
-        fault: option,
-    }
 }

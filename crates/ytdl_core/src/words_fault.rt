@@ -1,4 +1,8 @@
+ghost use Rattle.std.specs.Prelude.{◌≡◌};
+ghost use Rattle.ytdl_core.specs.declared.words_fault.WordsFault.TheVariants as faults;
+
 use crate::run_fault::OptionFault;
+use std::alloc::AllocFailed;
 use text_base::OutOfMemory;
 
 /// Why words give no options.
@@ -9,13 +13,29 @@ pub enum WordsFault {
     OutOfMemory,
 }
 
+/// The word at this place has this fault.
+pub fn bad(word: usize, fault: OptionFault) -> WordsFault
+    ensures { result ≡ faults.Bad word fault }
+{
+    WordsFault::Bad { word, fault }
+}
+
 impl From<OutOfMemory> for WordsFault {
     ghost use Rattle.std.specs.Prelude.{◌≡◌};
-    ghost use Rattle.ytdl_core.specs.declared.words_fault.WordsFault.TheVariants as fault;
 
-    ghost from_gives = { λ _ e. e ≡ fault.OutOfMemory };
+    ghost from_gives = { λ _ e. e ≡ faults.OutOfMemory };
 
     fn from(_: OutOfMemory) -> Self {
+        WordsFault::OutOfMemory
+    }
+}
+
+impl<T: Drop> From<AllocFailed<T>> for WordsFault {
+    ghost use Rattle.std.specs.Prelude.{◌≡◌};
+
+    ghost from_gives = { λ _ e. e ≡ faults.OutOfMemory };
+
+    fn from(_: AllocFailed<T>) -> Self {
         WordsFault::OutOfMemory
     }
 }

@@ -1,7 +1,6 @@
-use Rattle.std.proofs.Common.{◌≡◌}
 use Rattle.std.proofs.lemmas.Result.{err_from_is_err_and}
-use Rattle.std.specs.Option.{option_copied}
 use Rattle.info_tree.specs.Plain.{plain}
+use Rattle.ytdl_core.specs.Views.{plain_selection}
 use Rattle.ytdl_core.proofs.InfoLemmas.{exact_tree, exact_by_tree, entries_by_tree, items_by_tree}
 use Rattle.ytdl_core.proofs.command.read_entries.Goals as goal
 
@@ -13,12 +12,12 @@ returns-in_err-tree-clause-exact c =
 
 pub returns-clause-entries : goal.returns-clause-entries
 returns-clause-entries c =
-    entries_by_tree (λ v. v.items) (option_copied c.args.choice) c.args.bytes.now (plain c.in_ok-tree.tree) c.tree_entries.result
+    entries_by_tree (λ v. v.items) (plain_selection c.args.selection.now) c.args.bytes.now (plain c.in_ok-tree.tree) c.tree_entries.result
     c.in_ok-tree.ensures.tree c.tree_entries.ensures.entries
 
 pub returns-clause-exact : goal.returns-clause-exact
 returns-clause-exact c =
     let h = c.in_ok-tree.ensures in
     exact_by_tree _ c.args.bytes.now (plain c.in_ok-tree.tree) h.tree h.only h.exact c.tree_entries.result
-    (items_by_tree (λ v. v.items) (option_copied c.args.choice) (plain c.in_ok-tree.tree) c.tree_entries.result c.tree_entries.ensures.entries)
+    (items_by_tree (λ v. v.items) (plain_selection c.args.selection.now) (plain c.in_ok-tree.tree) c.tree_entries.result c.tree_entries.ensures.entries)
     c.tree_entries.ensures.fault

@@ -1,0 +1,18 @@
+use Rattle.std.proofs.Common.{◌∙◌, ap}
+use Rattle.std.specs.Prelude.{filter}
+use Rattle.std.specs.Option.{option_copied}
+use Rattle.fmt_sort.specs.Spec.{wish_of}
+use Rattle.ytdl_core.specs.Best.{is_candidate, worst_of}
+use Rattle.ytdl_core.proofs.PickLemmas.{worst_step, worst_found}
+use Rattle.ytdl_core.proofs.best.worst.Goals as goal
+
+pub loop-format-preserved : goal.loop-format-preserved
+loop-format-preserved c =
+    worst_step (wish_of c.args.sort.now) c.have_both-both.result c.args.formats.now c.loop-format.format-index c.format-item.result
+    (option_copied c.loop-format.worst) (option_copied c.worse-worst.result) c.loop-format-test.true c.format-item.is c.loop-format.invariant c.worse-worst.ensures
+
+pub returns : goal.returns
+returns c =
+    worst_found (wish_of c.args.sort.now) c.have_both-both.result c.args.formats.now c.loop-format.format-index (option_copied c.loop-format.worst)
+    c.loop-format-test.false c.loop-format.invariant
+    ∙ ap (λ both. worst_of (wish_of c.args.sort.now) (filter (is_candidate both) c.args.formats.now)) c.have_both-both.ensures
