@@ -91,131 +91,63 @@ fn values_are_refused(rt: HostRuntime) -> Result<(), Fail> {
     let alloc = rt.alloc();
     refuses(&rt, alloc, &["-s", INFO, ""], 1, OptionFault::BadValue)?;
     refuses(&rt, alloc, &["--load-info-json="], 0, OptionFault::BadValue)?;
-    refuses(&rt, alloc, &[INFO, "i", "-f", ""], 2, OptionFault::BadValue)?;
-    refuses(
-        &rt,
-        alloc,
-        &[INFO, "i", "-f", "bestvideo"],
-        2,
-        OptionFault::NotBuilt,
-    )?;
-    refuses(&rt, alloc, &["-f22x", INFO, ""], 0, OptionFault::NotBuilt)?;
-    refuses(
-        &rt,
-        alloc,
-        &[INFO, "i", "--print", "title"],
-        2,
-        OptionFault::NotBuilt,
-    )?;
-    refuses(
-        &rt,
-        alloc,
-        &[INFO, "i", "--print="],
-        2,
-        OptionFault::NotBuilt,
-    )?;
-    refuses(&rt, alloc, &["-xyz"], 0, OptionFault::NotBuilt)?;
-    refuses(&rt, alloc, &["--exec"], 0, OptionFault::NotBuilt)?;
-    refuses(
-        &rt,
-        alloc,
-        &["--restrict-filenames=1"],
-        0,
-        OptionFault::NotBuilt,
-    )?;
+    refuses(&rt, alloc, &[INFO, "i", "-f", ""], 2, OptionFault::BadValue)
+}
+
+#[test]
+fn what_is_not_built_is_refused(rt: HostRuntime) -> Result<(), Fail> {
+    let alloc = rt.alloc();
+    let unbuilt = OptionFault::NotBuilt;
+    refuses(&rt, alloc, &[INFO, "i", "-f", "bestvideo"], 2, unbuilt)?;
+    refuses(&rt, alloc, &["-f22x", INFO, ""], 0, unbuilt)?;
+    refuses(&rt, alloc, &[INFO, "i", "--print", "title"], 2, unbuilt)?;
+    refuses(&rt, alloc, &[INFO, "i", "--print="], 2, unbuilt)?;
+    refuses(&rt, alloc, &["-xyz"], 0, unbuilt)?;
+    refuses(&rt, alloc, &["--exec"], 0, unbuilt)?;
+    refuses(&rt, alloc, &["--restrict-filenames=1"], 0, unbuilt)
+}
+
+#[test]
+fn a_run_that_is_not_simulated_is_not_built(rt: HostRuntime) -> Result<(), Fail> {
+    let alloc = rt.alloc();
+    let unbuilt = OptionFault::NotBuilt;
     refuses(&rt, alloc, &["-s"], 1, OptionFault::NoInfo)?;
-    refuses(&rt, alloc, &[INFO, "i"], 2, OptionFault::NotBuilt)?;
-    refuses(&rt, alloc, &[INFO, "--print"], 2, OptionFault::NotBuilt)?;
-    refuses(
-        &rt,
-        alloc,
-        &[INFO, "i", "-s", "--no-simulate"],
-        4,
-        OptionFault::NotBuilt,
-    )?;
-    refuses(
-        &rt,
-        alloc,
-        &[INFO, "i", "--no-simulate", "--print", "filename"],
-        5,
-        OptionFault::NotBuilt,
-    )
+    refuses(&rt, alloc, &[INFO, "i"], 2, unbuilt)?;
+    refuses(&rt, alloc, &[INFO, "--print"], 2, unbuilt)?;
+    refuses(&rt, alloc, &[INFO, "i", "-s", "--no-simulate"], 4, unbuilt)?;
+    let printed = [INFO, "i", "--no-simulate", "--print", "filename"];
+    refuses(&rt, alloc, &printed, 5, unbuilt)
 }
 
 #[test]
 fn words_set_options(rt: HostRuntime) -> Result<(), Fail> {
     let alloc = rt.alloc();
+    let one = [INFO, "i", "--print", "filename"];
+    asks(&rt, alloc, &one, "i", (None, 1, true))?;
+    let joined = ["--load-info-json=a=b", "-s"];
+    asks(&rt, alloc, &joined, "a=b", (None, 0, false))?;
+    let dashes = [INFO, "--print", "--simulate"];
+    asks(&rt, alloc, &dashes, "--print", (None, 0, false))?;
+    let closed = [INFO, "--", "-s", "--"];
+    asks(&rt, alloc, &closed, "--", (None, 0, false))
+}
+
+#[test]
+fn of_repeated_words_the_last_stands(rt: HostRuntime) -> Result<(), Fail> {
+    let alloc = rt.alloc();
     let print = "--print=filename";
-    asks(
-        &rt,
-        alloc,
-        &[INFO, "i", "--print", "filename"],
-        "i",
-        (None, 1, true),
-    )?;
-    asks(
-        &rt,
-        alloc,
-        &["--load-info-json=a=b", "-s"],
-        "a=b",
-        (None, 0, false),
-    )?;
-    asks(
-        &rt,
-        alloc,
-        &[INFO, "--print", "--simulate"],
-        "--print",
-        (None, 0, false),
-    )?;
-    asks(
-        &rt,
-        alloc,
-        &[INFO, "--", "-s", "--"],
-        "--",
-        (None, 0, false),
-    )?;
-    asks(
-        &rt,
-        alloc,
-        &[print, print, INFO, "i", "--no-quiet"],
-        "i",
-        (None, 2, false),
-    )?;
-    asks(
-        &rt,
-        alloc,
-        &["-f", "22", INFO, "a", INFO, "b", "-s", "-f137"],
-        "b",
-        (Some("137"), 0, false),
-    )?;
-    asks(
-        &rt,
-        alloc,
-        &[INFO, "i", "--no-simulate", "-s"],
-        "i",
-        (None, 0, false),
-    )?;
-    asks(
-        &rt,
-        alloc,
-        &[INFO, "i", "-s", "--no-quiet", "-q"],
-        "i",
-        (None, 0, true),
-    )?;
-    asks(
-        &rt,
-        alloc,
-        &[INFO, "i", "-s", "-q", "--no-quiet", print],
-        "i",
-        (None, 1, false),
-    )?;
-    asks(
-        &rt,
-        alloc,
-        &[print, "--no-simulate", INFO, "i", "--simulate"],
-        "i",
-        (None, 1, true),
-    )
+    let two = [print, print, INFO, "i", "--no-quiet"];
+    asks(&rt, alloc, &two, "i", (None, 2, false))?;
+    let later = ["-f", "22", INFO, "a", INFO, "b", "-s", "-f137"];
+    asks(&rt, alloc, &later, "b", (Some("137"), 0, false))?;
+    let simulated = [INFO, "i", "--no-simulate", "-s"];
+    asks(&rt, alloc, &simulated, "i", (None, 0, false))?;
+    let quiet = [INFO, "i", "-s", "--no-quiet", "-q"];
+    asks(&rt, alloc, &quiet, "i", (None, 0, true))?;
+    let loud = [INFO, "i", "-s", "-q", "--no-quiet", print];
+    asks(&rt, alloc, &loud, "i", (None, 1, false))?;
+    let printed = [print, "--no-simulate", INFO, "i", "--simulate"];
+    asks(&rt, alloc, &printed, "i", (None, 1, true))
 }
 
 #[test]
