@@ -2,6 +2,7 @@ pub mod Arithmetic
 pub mod Causes
 pub mod Fields
 pub mod Grammar
+pub mod Kept
 pub mod Number
 pub mod NumberText
 pub mod Reading

@@ -3,6 +3,7 @@
 
 mod failed;
 mod folder_fault;
+mod kept;
 mod num_arithmetic;
 mod num_fault;
 mod num_field;

@@ -6,8 +6,13 @@ use std::test::Fail;
 
 #[test]
 fn text_keeps_its_bytes(rt: HostRuntime) -> Result<(), Fail> {
-    let text = Text::new(rt.alloc(), "Größe €")?;
-    assert_eq!(rt; text.as_str(), "Größe €");
+    let alloc = rt.alloc();
+    for bytes in ["", "Größe €", "sixteen bytes ok", "seventeen letters"] {
+        let text = Text::new(alloc, bytes)?;
+        assert_eq!(rt; text.as_str(), bytes);
+        let moved = Text::from(String::from_str(alloc, bytes)?);
+        assert_eq!(rt; moved.as_str(), bytes);
+    }
     Ok(())
 }
 

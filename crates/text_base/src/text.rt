@@ -1,5 +1,6 @@
 ghost use Rattle.std.specs.Prelude.{◌≡◌, IfOk};
 
+use crate::kept::Kept;
 use crate::out_of_memory::OutOfMemory;
 use std::alloc::Global;
 use std::marker::Model;
@@ -7,16 +8,16 @@ use std::marker::Model;
 /// A text that contracts see as the list of its UTF-8 bytes.
 #[derive(Debug, Drop)]
 pub struct Text {
-    inner: String,
+    kept: Kept,
 }
 
 impl Model for Text {
     ghost use Rattle.std.specs.Prelude.{List, ℕ};
-    ghost use Rattle.std.specs.String.{string_bytes};
+    ghost use Rattle.text_base.specs.Kept.{kept_bytes};
 
     ghost Value = { List ℕ };
 
-    ghost view = { λ t. string_bytes t.inner };
+    ghost view = { λ t. kept_bytes t.kept };
 }
 
 impl Text {
@@ -25,7 +26,7 @@ impl Text {
         ensures { IfOk result (λ t. t ≡ text.now) }
     {
         Ok(Text {
-            inner: String::from_str(alloc, text)?,
+            kept: Kept::new(alloc, text)?,
         })
     }
 
@@ -33,7 +34,7 @@ impl Text {
     pub fn as_str(&self) -> &str
         ensures { result.now ≡ self.now }
     {
-        self.inner.as_str()
+        self.kept.as_str()
     }
 }
 
@@ -42,7 +43,9 @@ impl From<String> for Text {
 
     ghost from_gives = { λ s t. t ≡ string_bytes s };
 
-    fn from(inner: String) -> Self {
-        Text { inner }
+    fn from(text: String) -> Self {
+        Text {
+            kept: Kept::from_string(text),
+        }
     }
 }
