@@ -1,6 +1,6 @@
 -- What tells the places of keys, as keys come.
 use Rattle.std.proofs.Common.{◌≡◌, ℕ, zero, suc, ◌+◌, ◌<◌, List, [], ◌∷◌, ◌++◌, length, take, get_or, refl, sym, ap, subst, ◌∙◌, arith, Bool, true, false, cond}
-use Rattle.std.specs.Prelude.{Option, Some, None, String, is_some, map, slice_get}
+use Rattle.std.specs.Prelude.{Option, Some, None, String, is_some, slice_get}
 use Rattle.std.specs.List.{position, IsDistinct}
 use Rattle.std.specs.Str.{bytes_eq}
 use Rattle.std.specs.String.{string_bytes, string_cmp}
@@ -9,7 +9,7 @@ use Rattle.std.specs.Cmp.Lexicographic.{slice_cmp}
 use Rattle.std.specs.BTreeMap.{BTreeMap, UpdatesBy, IsEmpty}
 use Rattle.std.specs.declared.alloc.Global.{Global}
 use Rattle.std.proofs.lemmas.Cmp.{nat_list_eq_equiv}
-use Rattle.std.proofs.lemmas.List.{map_more, take-map}
+use Rattle.std.proofs.lemmas.List.{take_more}
 use Rattle.std.proofs.lemmas.Map.Keys.{IsDistinct-push}
 use Rattle.std.proofs.lemmas.Map.Text.{btree_map_updates_text}
 use Rattle.std.proofs.lemmas.Slice.Eq.{bytes_eq-Decides}
@@ -49,28 +49,26 @@ tells_more m n ks k i tells fresh last updates text =
     ∙ ap (λ j. first_of_two (position (bytes_eq text) ks) (cond (bytes_eq text k) (Some j) None)) last
     ∙ sym (position-push (bytes_eq text) ks k)
 
-key_at : (texts : List (String Global)) (i : ℕ) (t : String Global) → i < length texts → t ≡ get_or texts i t → slice_get (map string_bytes texts) i ≡ Some (string_bytes t)
+key_at : (texts : List (List ℕ)) (i : ℕ) (t : List ℕ) → i < length texts → t ≡ get_or texts i t → slice_get texts i ≡ Some t
 key_at [] i t low e = absurd (omega (arith, low))
-key_at (x ∷ texts) zero t low e = ap (λ (s : String Global). Some (string_bytes s)) (sym e)
+key_at (x ∷ texts) zero t low e = ap (λ (s : List ℕ). Some s) (sym e)
 key_at (x ∷ texts) (suc i) t low e = let less : i < length texts = omega (arith, low) in key_at texts i t less e
 
-length-front : (texts : List (String Global)) (i : ℕ) → i < length texts → i ≡ length (map string_bytes (take i texts))
+length-front : (texts : List (List ℕ)) (i : ℕ) → i < length texts → i ≡ length (take i texts)
 length-front [] i low = absurd (omega (arith, low))
 length-front (x ∷ texts) zero low = refl
 length-front (x ∷ texts) (suc i) low = let less : i < length texts = omega (arith, low) in ap suc (length-front texts i less)
 
 -- the next of texts that differ is told at its place
-pub tells_next : (m n : Places) (texts : List (String Global)) (i : ℕ) (t key : String Global) → i < length texts → t ≡ get_or texts i t → string_bytes key ≡ string_bytes t →
-    IsDistinct bytes_eq (map string_bytes texts) → TellsPlaces m (map string_bytes (take i texts)) → UpdatesBy string_cmp (string_cmp key) m n (Some i) →
-    TellsPlaces n (map string_bytes (take (i + 1) texts))
+pub tells_next : (m n : Places) (texts : List (List ℕ)) (i : ℕ) (t : List ℕ) (key : String Global) → i < length texts → t ≡ get_or texts i t → string_bytes key ≡ t →
+    IsDistinct bytes_eq texts → TellsPlaces m (take i texts) → UpdatesBy string_cmp (string_cmp key) m n (Some i) → TellsPlaces n (take (i + 1) texts)
 tells_next m n texts i t key low here same distinct tells updates =
-    let ks : List (List ℕ) = map string_bytes (take i texts) in
-    let at_key : slice_get (map string_bytes texts) i ≡ Some (string_bytes key) = key_at texts i t low here ∙ ap (λ (l : List ℕ). Some l) (sym same) in
-    let before : position (bytes_eq (string_bytes key)) (take i (map string_bytes texts)) ≡ None = position-before (map string_bytes texts) i (string_bytes key) distinct at_key in
-    let fresh : position (bytes_eq (string_bytes key)) ks ≡ None = subst (λ (l : List (List ℕ)). position (bytes_eq (string_bytes key)) l ≡ None) (take-map string_bytes i texts) before in
-    let one : string_bytes (get_or texts i t) ≡ string_bytes key = ap (λ (s : String Global). string_bytes s) (sym here) ∙ sym same in
-    let all : map string_bytes (take (i + 1) texts) ≡ ks ++ string_bytes key ∷ [] = map_more string_bytes texts i t low ∙ ap (λ (l : List ℕ). ks ++ l ∷ []) one in
-    subst (λ (l : List (List ℕ)). TellsPlaces n l) (sym all) (tells_more m n ks (string_bytes key) i tells fresh (length-front texts i low) updates)
+    let k : List ℕ = string_bytes key in
+    let at_key : slice_get texts i ≡ Some k = key_at texts i t low here ∙ ap (λ (l : List ℕ). Some l) (sym same) in
+    let fresh : position (bytes_eq k) (take i texts) ≡ None = position-before texts i k distinct at_key in
+    let one : get_or texts i t ≡ k = sym here ∙ sym same in
+    let all : take (i + 1) texts ≡ take i texts ++ k ∷ [] = take_more texts i t low ∙ ap (λ (l : List ℕ). take i texts ++ l ∷ []) one in
+    subst (λ (l : List (List ℕ)). TellsPlaces n l) (sym all) (tells_more m n (take i texts) k i tells fresh (length-front texts i low) updates)
 
 -- keys stay apart when a new one comes
 pub distinct_more : (ks : List (List ℕ)) (k : List ℕ) → IsDistinct bytes_eq ks → position (bytes_eq k) ks ≡ None → IsDistinct bytes_eq (ks ++ k ∷ [])

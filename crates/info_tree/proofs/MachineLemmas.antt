@@ -1,7 +1,7 @@
 -- A list begins with a value or ends.
-use Rattle.std.proofs.Common.{◌≡◌, List, [], ◌∷◌, ◌++◌, refl}
+use Rattle.std.proofs.Common.{◌≡◌, List, [], ◌∷◌, ◌++◌, length, refl, sym, ap, ◌∙◌}
 use Rattle.std.specs.Prelude.{map}
-use Rattle.std.proofs.lemmas.List.{map-append, reverse-append}
+use Rattle.std.proofs.lemmas.List.{length-map, length-reverse, map-append, reverse-append}
 use Rattle.info_tree.specs.Machine.{Mark, begin_list, end_list, begin_map, end_map, comma, colon, scalar, chars, Frame, in_list, begin_value, item_or_close}
 use Rattle.info_tree.specs.Lexed.{plain_mark, plain_frame, plain_frames}
 use Rattle.info_tree.specs.declared.machine.Frame.{Frame as Open}
@@ -32,3 +32,7 @@ is_no_end (token.Text s) h e = cc
 
 pub frames_pushed : (fs : List Open) (f : Open) → plain_frames (fs ++ f ∷ []) ≡ plain_frame f ∷ plain_frames fs
 frames_pushed fs f = rw (map-append plain_frame fs (f ∷ [])) (reverse-append (map plain_frame fs) (plain_frame f ∷ []))
+
+-- where no frame is seen none is open
+pub frames_none : (fs : List Open) → plain_frames fs ≡ [] → length fs ≡ 0
+frames_none fs e = sym (length-map fs plain_frame) ∙ sym (length-reverse (map plain_frame fs)) ∙ ap length e

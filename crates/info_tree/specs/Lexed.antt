@@ -1,6 +1,5 @@
 -- The tokens, frames and states of the program as those of the grammar and the machine.
 use Rattle.std.specs.Prelude.{◌≡◌, ℕ, ◌+◌, List, [], ◌∷◌, ◌++◌, length, map, reverse, Option, Some, None, MatchOption, Bool, true, false, ◌==◌, ◌||◌, ◌⊎◌, if◌then◌else◌}
-use Rattle.std.specs.String.{string_bytes}
 use Rattle.text_base.specs.Number.{number_of}
 use Rattle.text_base.specs.declared.num_fault.NumFault.{NumFault}
 use Rattle.info_tree.specs.Plain.{plain}
@@ -33,7 +32,7 @@ plain_mark token.Colon = machine.colon
 plain_mark token.Null = machine.scalar null
 plain_mark (token.Bool b) = machine.scalar (truth b)
 plain_mark (token.Number n) = machine.scalar (number (number_of n))
-plain_mark (token.Text s) = machine.chars (string_bytes s)
+plain_mark (token.Text s) = machine.chars s
 
 -- the bytes begin with a token that means this and is accepted
 pub record Lexes (bytes : List ℕ) (mark : machine.Mark) (rest : List ℕ) : Type 0 where
@@ -119,7 +118,7 @@ NoEscape bytes = (p : Piece) (rest : List ℕ) → IsPiece p → 92 ∷ bytes �
 
 abbrev pub plain_frame : Frame → machine.Frame
 plain_frame (frame.List ts) = machine.in_list ts
-plain_frame (frame.Map ps k) = machine.in_map ps (string_bytes k)
+plain_frame (frame.Map ps k) = machine.in_map ps k
 
 -- innermost first
 abbrev pub plain_frames : List Frame → List machine.Frame
@@ -130,7 +129,7 @@ plain_next next.Value = machine.value
 plain_next next.ItemOrEnd = machine.item_or_end
 plain_next next.KeyOrEnd = machine.key_or_end
 plain_next (next.Key ps) = machine.key ps
-plain_next (next.Colon ps k) = machine.colon_after ps (string_bytes k)
+plain_next (next.Colon ps k) = machine.colon_after ps k
 plain_next (next.Done t) = machine.done (plain t)
 
 -- what a step of the program gives is what the machine's step gives

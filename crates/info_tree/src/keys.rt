@@ -8,7 +8,7 @@ ghost use Rattle.info_tree.specs.Keys.{TellsPlaces};
 use std::alloc::Global;
 use std::collections::BTreeMap;
 use std::marker::Model;
-use text_base::OutOfMemory;
+use text_base::{OutOfMemory, Text};
 
 /// As many keys as are looked up one after another.
 const FEW: usize = 32;
@@ -16,7 +16,7 @@ const FEW: usize = 32;
 /// Texts of which no two are equal, in the order in which they came, as the keys of a map.
 #[derive(Drop)]
 pub struct Keys {
-    texts: Vec<String>,
+    texts: Vec<Text>,
     /// The place of each, where there are more than a few.
     places: Option<Box<BTreeMap<String, usize>>>,
 }
@@ -26,15 +26,14 @@ impl Model for Keys {
     ghost use Rattle.std.specs.Option.{ForSome};
     ghost use Rattle.std.specs.List.{IsDistinct};
     ghost use Rattle.std.specs.Str.{bytes_eq};
-    ghost use Rattle.std.specs.String.{string_bytes};
     ghost use Rattle.info_tree.specs.Keys.{TellsPlaces};
 
     ghost Value = { List (List ℕ) };
 
-    ghost view = { λ a. map string_bytes a.texts.items };
+    ghost view = { λ a. a.texts.items };
 
-    ghost invariant = { λ a. IsDistinct bytes_eq (map string_bytes a.texts.items)
-        × ForSome a.places (λ b. TellsPlaces b.value (map string_bytes a.texts.items)) };
+    ghost invariant = { λ a. IsDistinct bytes_eq a.texts.items
+        × ForSome a.places (λ b. TellsPlaces b.value a.texts.items) };
 }
 
 impl Keys {
@@ -76,6 +75,15 @@ impl Keys {
         ensures ok { OnOk result (self.new ≡ self.old ++ string_bytes text ∷ []) }
         ensures err { OnErr result (self.new ≡ self.old) }
     {
+        self.put_last(Text::from(text))
+    }
+
+    /// The same with a text of our own.
+    pub(crate) fn put_last(&mut self, text: Text) -> Result<(), OutOfMemory>
+        requires { position (bytes_eq text) self.old ≡ None }
+        ensures ok { OnOk result (self.new ≡ self.old ++ text ∷ []) }
+        ensures err { OnErr result (self.new ≡ self.old) }
+    {
         let places = places_behind(self.places.take(), &self.texts, text.as_str())?;
         self.texts.push(text)?;
         self.places = places;
@@ -83,8 +91,8 @@ impl Keys {
     }
 }
 
-fn place_among(texts: &Vec<String>, text: &str) -> Option<usize>
-    ensures { result ≡ position (λ k. bytes_eq text.now (string_bytes k)) texts.now.items }
+fn place_among(texts: &Vec<Text>, text: &str) -> Option<usize>
+    ensures { result ≡ position (bytes_eq text.now) texts.now.items }
 {
     texts.iter().position(|key| text == key.as_str())
 }
@@ -92,13 +100,13 @@ fn place_among(texts: &Vec<String>, text: &str) -> Option<usize>
 /// The places once a text that is not there stands last, where there are more than a few.
 fn places_behind(
     places: Option<Box<BTreeMap<String, usize>>>,
-    texts: &Vec<String>,
+    texts: &Vec<Text>,
     text: &str,
 ) -> Result<Option<Box<BTreeMap<String, usize>>>, OutOfMemory>
-    requires places { ForSome places (λ b. TellsPlaces b.value (map string_bytes texts.now.items)) }
-    requires distinct { IsDistinct bytes_eq (map string_bytes texts.now.items) }
-    requires fresh { position (bytes_eq text.now) (map string_bytes texts.now.items) ≡ None }
-    ensures { IfOk result (λ o. ForSome o (λ b. TellsPlaces b.value (map string_bytes texts.now.items ++ text.now ∷ []))) }
+    requires places { ForSome places (λ b. TellsPlaces b.value texts.now.items) }
+    requires distinct { IsDistinct bytes_eq texts.now.items }
+    requires fresh { position (bytes_eq text.now) texts.now.items ≡ None }
+    ensures { IfOk result (λ o. ForSome o (λ b. TellsPlaces b.value (texts.now.items ++ text.now ∷ []))) }
 {
     let alloc = *texts.allocator();
     let mut places = match places {
@@ -111,14 +119,14 @@ fn places_behind(
 }
 
 /// The place of each text.
-fn places_of(texts: &Vec<String>) -> Result<BTreeMap<String, usize>, OutOfMemory>
-    requires { IsDistinct bytes_eq (map string_bytes texts.now.items) }
-    ensures { IfOk result (λ m. TellsPlaces m (map string_bytes texts.now.items)) }
+fn places_of(texts: &Vec<Text>) -> Result<BTreeMap<String, usize>, OutOfMemory>
+    requires { IsDistinct bytes_eq texts.now.items }
+    ensures { IfOk result (λ m. TellsPlaces m texts.now.items) }
 {
     let alloc = *texts.allocator();
     let mut places = BTreeMap::new(alloc);
     for (place, text) in texts.iter().enumerate() {
-        places.insert(text.clone()?, place)?;
+        places.insert(String::from_str(alloc, text.as_str())?, place)?;
     }
     Ok(places)
 }

@@ -1,5 +1,4 @@
 ghost use Rattle.std.specs.Prelude.{◌≡◌, ◌+◌, ◌≤◌, ◌^◌, List, [], Some, None, IfOk, MatchOption};
-ghost use Rattle.std.specs.String.{string_bytes};
 ghost use Rattle.info_tree.specs.Plain.{plain};
 ghost use Rattle.info_tree.specs.Machine as machine;
 ghost use Rattle.info_tree.specs.Lexed.{plain_mark, plain_frames, plain_next, Takes, IsUnfinished, state_levels, takes_value};
@@ -13,7 +12,7 @@ use text_base::{OutOfMemory, Text};
 #[derive(Drop)]
 pub enum Frame {
     List(TreeList),
-    Map(TreeMap, String),
+    Map(TreeMap, Text),
 }
 
 /// What may come next.
@@ -23,7 +22,7 @@ pub enum Next {
     ItemOrEnd,
     KeyOrEnd,
     Key(TreeMap),
-    Colon(TreeMap, String),
+    Colon(TreeMap, Text),
     Done(Tree),
 }
 
@@ -60,7 +59,7 @@ fn begin_value(token: Token) -> Option<Next>
         Token::Null => Some(Next::Done(Tree::Null)),
         Token::Bool(value) => Some(Next::Done(Tree::Bool(value))),
         Token::Number(value) => Some(Next::Done(Tree::Num(value))),
-        Token::Text(text) => Some(Next::Done(Tree::Text(Text::from(text)))),
+        Token::Text(text) => Some(Next::Done(Tree::Text(text))),
         _ => None,
     }
 }
@@ -116,11 +115,11 @@ fn a_key(map: TreeMap, token: Token) -> Option<Next>
 fn a_colon(
     frames: &mut Vec<Frame>,
     map: TreeMap,
-    key: String,
+    key: Text,
     token: Token,
 ) -> Result<Option<Next>, OutOfMemory>
     ensures { IfOk result (λ o. Takes
-        (machine.a_colon (plain_frames frames.old.items) map (string_bytes key) (plain_mark token))
+        (machine.a_colon (plain_frames frames.old.items) map key (plain_mark token))
         frames.new.items o) }
 {
     match token {
@@ -186,7 +185,7 @@ fn after_value(
             after_item(frames, list, token)
         }
         Some(Frame::Map(mut map, key)) => {
-            map.set(key, tree)?;
+            map.put(key, tree)?;
             after_member(frames, map, token)
         }
     }

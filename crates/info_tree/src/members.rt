@@ -1,6 +1,5 @@
 ghost use Rattle.std.specs.Prelude.{◌≡◌, ◌<◌, vec_len, slice_set, length, slice_get, OnOk, []};
 ghost use Rattle.std.specs.Option.{option_map};
-ghost use Rattle.std.specs.String.{string_bytes};
 ghost use Rattle.info_tree.specs.Plain.{plain};
 ghost use Rattle.info_tree.specs.Pairs.{value_at, put, HaveDistinctKeys};
 
@@ -8,7 +7,7 @@ use crate::keys::Keys;
 use crate::tree::Tree;
 use std::alloc::Global;
 use std::marker::Model;
-use text_base::OutOfMemory;
+use text_base::{OutOfMemory, Text};
 
 /// The pairs of a map: keys, and beside each its tree.
 #[cycle(tree)]
@@ -81,8 +80,8 @@ impl Members {
     }
 
     /// Puts a tree under a key: a key that is there keeps its place.
-    pub fn set(&mut self, key: String, tree: Tree) -> Result<(), OutOfMemory>
-        ensures { OnOk result (self.new ≡ put self.old (string_bytes key) (plain tree)) }
+    pub fn put(&mut self, key: Text, tree: Tree) -> Result<(), OutOfMemory>
+        ensures { OnOk result (self.new ≡ put self.old key (plain tree)) }
     {
         match self.keys.place_of(key.as_str()) {
             Some(place) => {
@@ -91,7 +90,7 @@ impl Members {
             }
             None => {
                 self.values.push(tree)?;
-                if self.keys.push(key).is_err() {
+                if self.keys.put_last(key).is_err() {
                     let _ = self.values.pop();
                     return Err(OutOfMemory);
                 }

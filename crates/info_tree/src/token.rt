@@ -1,7 +1,6 @@
 ghost use Rattle.std.specs.Prelude.{◌≡◌, ◌≢◌, ◌<◌, ◌≤◌, ◌∷◌, ◌++◌, None, IfOk, IfErr, IfSome, IfNone, length, map, slice_index};
 ghost use Rattle.std.specs.Option.{option_map};
 ghost use Rattle.std.specs.Str.{IsUtf8};
-ghost use Rattle.std.specs.String.{string_bytes};
 ghost use Rattle.info_tree.specs.Token.{after_space, is_space, byte, ArePieces};
 ghost use Rattle.info_tree.specs.Lexed.{plain_mark, Lexes, NoneBegins, IsTokenFault, IsString, NoString, sign_at, IsLetter};
 ghost use Rattle.info_tree.specs.Machine.{mark_of};
@@ -10,7 +9,7 @@ use crate::ascii::{behind_word, split_ascii, split_plain};
 use crate::decoded::Decoded;
 use crate::escape::read_escape;
 use std::alloc::Global;
-use text_base::{Num, NumFault, OutOfMemory, read_num};
+use text_base::{Num, NumFault, OutOfMemory, Text, read_num};
 
 /// A token of a JSON text (RFC 8259, section 2).
 #[derive(Drop)]
@@ -24,7 +23,7 @@ pub enum Token {
     Null,
     Bool(bool),
     Number(Num),
-    Text(String),
+    Text(Text),
 }
 
 /// Why a token was not made.
@@ -160,16 +159,14 @@ fn number_token(text: &str) -> Result<Option<(Token, &str)>, TokenFault>
 }
 
 /// The text of a string behind its opening quote, and what follows its closing one.
-fn string(alloc: Global, text: &str) -> Result<Option<(String, &str)>, OutOfMemory>
-    ensures string { IfOk result (λ o. IfSome o (λ p. IsString text.now (string_bytes p.0) p.1.now)) }
+fn string(alloc: Global, text: &str) -> Result<Option<(Text, &str)>, OutOfMemory>
+    ensures string { IfOk result (λ o. IfSome o (λ p. IsString text.now p.0 p.1.now)) }
     ensures text { IfOk result (λ o. IfSome o (λ p. IsUtf8 p.1.now)) }
     ensures none { IfOk result (λ o. IfNone o (NoString text.now)) }
 {
     let (plain, marked) = split_plain(text);
     match split_ascii(marked) {
-        Some((byte, after)) if byte == b'"' => {
-            Ok(Some((String::from_str(alloc, plain)?, after)))
-        }
+        Some((byte, after)) if byte == b'"' => { Ok(Some((Text::new(alloc, plain)?, after))) }
         _ => marked_string(alloc, text, plain, marked),
     }
 }
@@ -180,10 +177,10 @@ fn marked_string<'a>(
     text: &'a str,
     plain: &'a str,
     marked: &'a str,
-) -> Result<Option<(String, &'a str)>, OutOfMemory>
+) -> Result<Option<(Text, &'a str)>, OutOfMemory>
     requires whole { text.now ≡ plain.now ++ marked.now }
     requires pieces { ArePieces (map byte plain.now) }
-    ensures string { IfOk result (λ o. IfSome o (λ p. IsString text.now (string_bytes p.0) p.1.now)) }
+    ensures string { IfOk result (λ o. IfSome o (λ p. IsString text.now p.0 p.1.now)) }
     ensures text { IfOk result (λ o. IfSome o (λ p. IsUtf8 p.1.now)) }
     ensures none { IfOk result (λ o. IfNone o (NoString text.now)) }
 {
@@ -197,7 +194,7 @@ fn marked_string<'a>(
             return Ok(None);
         };
         if byte == b'"' {
-            return Ok(Some((decoded.finish()?, after)));
+            return Ok(Some((Text::from(decoded.finish()?), after)));
         }
         if byte != b'\\' {
             return Ok(None);

@@ -156,13 +156,20 @@ impl TreeMap {
     pub fn set(&mut self, key: String, tree: Tree) -> Result<(), OutOfMemory>
         ensures { OnOk result (self.new ≡ put self.old (string_bytes key) (plain tree)) }
     {
+        self.put(Text::from(key), tree)
+    }
+
+    /// The same under a text of our own.
+    pub(crate) fn put(&mut self, key: Text, tree: Tree) -> Result<(), OutOfMemory>
+        ensures { OnOk result (self.new ≡ put self.old key (plain tree)) }
+    {
         let mut members = match self.members.take() {
             Some(members) => members,
             None => Box::new(self.alloc, Members::new(self.alloc))?,
         };
-        let set = members.set(key, tree);
+        let put = members.put(key, tree);
         self.members = Some(members);
-        set
+        put
     }
 }
 

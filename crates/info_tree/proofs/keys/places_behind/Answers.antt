@@ -1,7 +1,5 @@
-use Rattle.std.proofs.Common.{◌≡◌, List, ℕ, length, sym, ◌∙◌, rules}
-use Rattle.std.specs.Prelude.{map}
+use Rattle.std.proofs.Common.{◌≡◌, List, ℕ, length, rules}
 use Rattle.std.specs.String.{string_bytes}
-use Rattle.std.proofs.lemmas.List.{length-map}
 use Rattle.info_tree.specs.Keys.{TellsPlaces}
 use Rattle.info_tree.proofs.KeyLemmas.{tells_more}
 use Rattle.info_tree.proofs.Places.{some_is}
@@ -10,14 +8,13 @@ use Rattle.info_tree.proofs.keys.places_behind.Goals.{in-Some, in-None-2+in_ok-p
 
 pub returns : goal.returns
 returns c =
-    let ks : List (List ℕ) = map string_bytes c.args.texts.now.items in
+    let ks : List (List ℕ) = c.args.texts.now.items in
     let told : TellsPlaces c.match-places.places.value ks = elim c.match-places.branch [
       | in-Some w ↦ search rules
       | in-None-2+in_ok-places_of-in-None-2+in_ok-places-in-None-2 w ↦ search rules
     ] in
     let before : TellsPlaces c.deref_mut.result.now ks = rw c.deref_mut.ensures.value told in
     let long : c.len-2.result ≡ length c.args.texts.now.items = search rules in
-    let last : c.len-2.result ≡ length ks = long ∙ sym (length-map c.args.texts.now.items string_bytes) in
     let key : string_bytes c.in_ok-from_str.field-0 ≡ c.args.text.now = c.in_ok-from_str.ensures.ok in
     λ x e. rw (← some_is e)
-    (rw key at (tells_more c.deref_mut.result.now c.insert.new.self ks (string_bytes c.in_ok-from_str.field-0) c.len-2.result before (rw key c.requires.fresh) last c.in_ok-insert.ensures.updates))
+    (rw key at (tells_more c.deref_mut.result.now c.insert.new.self ks (string_bytes c.in_ok-from_str.field-0) c.len-2.result before (rw key c.requires.fresh) long c.in_ok-insert.ensures.updates))

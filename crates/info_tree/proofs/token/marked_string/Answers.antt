@@ -20,8 +20,8 @@ returns-then-byte-eq34-clause-string c =
     let new = string_bytes c.push_plain.new.self.text in
     let s = read_plain c.args.text.now out new c.pieces.decoded.high c.push_plain.new.self.high c.pieces.rest.now c.split_plain.result.0.now c.split_plain.result.1.now
     c.pieces.invariant.read c.split_plain.ensures.whole c.split_plain.ensures.plain c.in_ok-push_plain.ensures in
-    read_whole c.args.text.now new (string_bytes c.in_ok-finish.field-0) c.push_plain.new.self.high c.split_plain.result.1.now c.in-Some.after.now s
-    (c.in-Some.ensures.some ∙ ap (λ b. b ∷ c.in-Some.after.now) c.if-byte-eq34.true) c.in_ok-finish.ensures
+    rw c.from.ensures (read_whole c.args.text.now new (string_bytes c.in_ok-finish.field-0) c.push_plain.new.self.high c.split_plain.result.1.now c.in-Some.after.now s
+    (c.in-Some.ensures.some ∙ ap (λ b. b ∷ c.in-Some.after.now) c.if-byte-eq34.true) c.in_ok-finish.ensures)
 
 pub returns-in_default-read_escape-clause-none : goal.returns-in_default-read_escape-clause-none
 returns-in_default-read_escape-clause-none c =
