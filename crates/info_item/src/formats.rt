@@ -44,7 +44,7 @@ fn listed(alloc: Global, k: usize, list: &TreeList) -> Result<Vec<Format<'_>>, I
     ensures fault { IfErr result (spec.IsFaultOf (spec.list_of k list.now)) }
 {
     let mut ids = Keys::new(alloc);
-    let mut formats = Vec::new(alloc);
+    let mut formats = Vec::with_capacity(alloc, list.len())?;
     for j in 0..list.len() {
         let tree = entry(list, j);
         let Some(id) = format_id_of(alloc, tree)? else {

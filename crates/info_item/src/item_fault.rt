@@ -1,4 +1,4 @@
-use std::alloc::AllocFailed;
+use std::alloc::{AllocError, AllocFailed};
 use text_base::OutOfMemory;
 use thiserror::Error;
 
@@ -39,6 +39,17 @@ impl<T: Drop> From<AllocFailed<T>> for ItemFault {
     ghost from_gives = { λ _ e. e ≡ fault.OutOfMemory };
 
     fn from(_: AllocFailed<T>) -> Self {
+        ItemFault::OutOfMemory
+    }
+}
+
+impl From<AllocError> for ItemFault {
+    ghost use Rattle.std.specs.Prelude.{◌≡◌};
+    ghost use Rattle.info_item.specs.declared.item_fault.ItemFault.TheVariants as fault;
+
+    ghost from_gives = { λ _ e. e ≡ fault.OutOfMemory };
+
+    fn from(_: AllocError) -> Self {
         ItemFault::OutOfMemory
     }
 }

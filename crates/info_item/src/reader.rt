@@ -49,7 +49,7 @@ fn read_list(alloc: Global, list: &TreeList) -> Result<Vec<Item<'_>>, ItemFault>
     ensures items { IfOk result (λ items. spec.list_of list.now ≡ Ok items.items) }
     ensures fault { IfErr result (IsFaultOf (spec.list_of list.now)) }
 {
-    let mut items = Vec::new(alloc);
+    let mut items = Vec::with_capacity(alloc, list.len())?;
     for k in 0..list.len() {
         items.push(read_item(alloc, k, entry(list, k))?)?;
     }
