@@ -1,12 +1,13 @@
 -- Files that are copied or removed name by name.
-use Rattle.std.proofs.Common.{◌≡◌, inl, inr, Bool, true, false, ◌||◌, List, [], ◌∷◌, ◌++◌, refl, sym, ◌∙◌, ap, String, is_some}
-use Rattle.std.specs.Prelude.{Option, Some, None, bytes_eq, if◌then◌else◌}
+use Rattle.std.proofs.Common.{◌≡◌, inl, inr, ℕ, Bool, true, false, ◌||◌, List, [], ◌∷◌, ◌++◌, refl, sym, ◌∙◌, ap, String, is_some, string_bytes}
+use Rattle.std.specs.Prelude.{Option, Some, None, option_map, bytes_eq, if◌then◌else◌}
 use Rattle.std.specs.List.{list_any}
 use Rattle.std.specs.BTreeMap.{BTreeMap}
 use Rattle.std.specs.declared.alloc.Global.{Global}
 use Rattle.std.proofs.lemmas.List.Folds.{list_any-append}
-use Rattle.folder_base.specs.Disk.{Name, File, Names, put}
+use Rattle.folder_base.specs.Disk.{Name, File, Names, put, lasting_file}
 use Rattle.folder_base.specs.Files.{names_of, or_else, over, if_none, without}
+use Rattle.folder_base.specs.Stop.{filled, filled_names}
 use Rattle.folder_base.specs.declared.stored.Stored.{Stored}
 use Rattle.folder_base.proofs.Images.{put_here, put_there, same_or_not, same_name}
 use Rattle.folder_base.proofs.Listed.{key_names, keys_stand}
@@ -64,6 +65,17 @@ module _ (from : BTreeMap (String Global) Stored) (old : Names) where
   front_stands front rest is n e =
       sym (keys_stand n from) ∙ ap (list_any (bytes_eq n)) (sym is) ∙ list_any-append (bytes_eq n) front rest ∙ ap (λ (b : Bool). b || list_any (bytes_eq n) rest) e
 
+  any_next : (name : String Global) (front rest : List Name) → list_any (bytes_eq (string_bytes name)) (front ++ string_bytes name ∷ rest) ≡ true
+  any_next name front rest =
+      list_any-append (bytes_eq (string_bytes name)) front (string_bytes name ∷ rest)
+      ∙ ap (λ (b : Bool). list_any (bytes_eq (string_bytes name)) front || (b || list_any (bytes_eq (string_bytes name)) rest)) (same_name (string_bytes name))
+      ∙ or_true (list_any (bytes_eq (string_bytes name)) front)
+
+  -- The next of the keys stands.
+  pub next_stands : (name : String Global) (front rest : List Name) → front ++ string_bytes name ∷ rest ≡ key_names from → is_some (names_of from (string_bytes name)) ≡ true
+  next_stands name front rest is =
+      sym (keys_stand (string_bytes name) from) ∙ ap (list_any (bytes_eq (string_bytes name))) (sym is) ∙ any_next name front rest
+
   -- Some of them are copied, and elsewhere nothing has changed.
   pub laid_without : (front rest : List Name) → front ++ rest ≡ key_names from → without (names_of from) (laid front (names_of from) old) ≡ without (names_of from) old
   laid_without front rest is = λ i n. by n (names_of from n) (list_any (bytes_eq n) front) refl (front_stands front rest is n) i
@@ -72,3 +84,11 @@ module _ (from : BTreeMap (String Global) Stored) (old : Names) where
       by n (Some f) b e stands = refl
       by n None false e stands = refl
       by n None true e stands = let f : is_some (names_of from n) ≡ true = stands refl in let g : is_some (names_of from n) ≡ false = ap is_some e in absurd (cc)
+
+  -- All of them are copied, as what a stop leaves of them.
+  pub laid_filled : (fill : ℕ) → laid (key_names from) (filled_names fill (names_of from)) (λ _. None) ≡ filled_names fill (names_of from)
+  laid_filled fill = λ i n. (ap (λ (b : Bool). if b then filled_names fill (names_of from) n else None) (keys_stand n from) ∙ by (names_of from n)) i
+    where
+      by : (o : Option File) → (if is_some o then option_map (λ f. lasting_file (filled fill f)) o else None) ≡ option_map (λ f. lasting_file (filled fill f)) o
+      by None = refl
+      by (Some f) = refl

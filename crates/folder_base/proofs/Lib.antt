@@ -21,3 +21,4 @@ pub mod Stepping
 pub mod Stopping
 pub mod Storing
 pub mod Telling
+pub mod Undoing

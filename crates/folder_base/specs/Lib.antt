@@ -21,3 +21,4 @@ pub mod Stop
 pub mod Story
 pub mod Tale
 pub mod Took
+pub mod Undo

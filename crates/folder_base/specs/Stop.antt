@@ -11,9 +11,13 @@ first_kept kept spots (older ∷ back) = if nat_lt (length back) kept then spots
 abbrev pub filled : ℕ → File → Bytes
 filled fill file = file.sure ++ map (λ _. fill) (unwrap_or file.more [])
 
+-- each name with its file, all of whose bytes are lasting
+abbrev pub filled_names : ℕ → Names → Names
+filled_names fill names = λ name. option_map (λ file. lasting_file (filled fill file)) (names name)
+
 abbrev pub kept_names : ℕ → Disk → Names
 kept_names kept disk = as_now disk.live (first_kept kept (mark disk.live) disk.back)
 
--- the files that are left, all their bytes lasting
+-- the files that are left
 abbrev pub stopped : ℕ → ℕ → Disk → Names
-stopped kept fill disk = λ name. option_map (λ file. lasting_file (filled fill file)) (kept_names kept disk name)
+stopped kept fill disk = filled_names fill (kept_names kept disk)

@@ -46,6 +46,7 @@ impl Content {
     ghost use Rattle.folder_base.specs.Parts.{AreApart};
     ghost use Rattle.folder_base.specs.Merge.{IsMerged};
     ghost use Rattle.folder_base.specs.Steps.{is_there, is_free, is_any};
+    ghost use Rattle.folder_base.specs.Stop.{stopped};
 
     /// A folder with these files, their bytes lasting.
     pub(crate) fn new(alloc: Global, files: Vec<File>, plan: Plan) -> Result<Content, OutOfMemory>
@@ -165,6 +166,18 @@ impl Content {
         let Content { line, .. } = part;
         let Line { steps, files, .. } = line;
         let _ = self.places.push(Place { steps, files });
+    }
+
+    /// What a stop leaves of the files, where the first `kept` unsettled name changes hold.
+    pub(crate) fn stop(&self, alloc: Global, kept: u64, fill: u8) -> Result<Vec<File>, OutOfMemory>
+        ensures { IfOk result
+            (λ files. stood (λ _. None) files.items
+            ≡ stopped kept fill (content_tale self.now).story.now) }
+    {
+        match self.line.side {
+            Side::Rest => Err(OutOfMemory),
+            _ => self.line.replay(alloc)?.stop(alloc, kept, fill),
+        }
     }
 
     /// Makes an empty file. Answers whether the name was free.

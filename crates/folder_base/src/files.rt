@@ -123,6 +123,26 @@ pub(crate) fn remove_file(files: &mut Files, name: &str) -> bool
     files.remove(name).is_some()
 }
 
+/// Puts a file, or none, under a name. Answers what stood there.
+pub(crate) fn put_file(
+    alloc: Global,
+    files: &mut Files,
+    name: &str,
+    file: Option<Stored>,
+) -> Result<Option<Stored>, OutOfMemory>
+    ensures names { OnOk result
+        (names_of files.new ≡ put (names_of files.old) name.now (option_map file_of file)) }
+    ensures stood { IfOk result (λ stood. option_map file_of stood ≡ names_of files.old name.now) }
+{
+    match file {
+        Some(file) => {
+            let key = String::from_str(alloc, name)?;
+            Ok(files.insert(key, file)?)
+        }
+        None => Ok(files.remove(name)),
+    }
+}
+
 /// Puts a file in the place of one that has the name.
 fn place_file(files: &mut Files, name: &str, file: Stored)
     requires { is_some (names_of files.old name.now) ≡ true }

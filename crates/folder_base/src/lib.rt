@@ -17,6 +17,7 @@ mod part_lines;
 mod place;
 mod places;
 mod plan;
+mod replay;
 mod round;
 mod side;
 mod split;
@@ -25,6 +26,7 @@ mod steps;
 mod store_fault;
 mod stored;
 mod taker;
+mod undo;
 
 pub use file::File;
 pub use folder::Folder;
@@ -35,5 +37,7 @@ pub use taker::Taker;
 
 #[cfg(test)]
 mod part_tests;
+#[cfg(test)]
+mod stop_tests;
 #[cfg(test)]
 mod tests;

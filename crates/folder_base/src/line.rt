@@ -11,6 +11,7 @@ use crate::files::Files;
 use crate::index::Index;
 use crate::log::Log;
 use crate::part_lines::{copy_texts, leave_names, part_lines};
+use crate::replay::{Replay, make_all};
 use crate::side::Side;
 use crate::split::split_files;
 use crate::step::Step;
@@ -33,10 +34,11 @@ pub(crate) struct Line {
 }
 
 impl Line {
-    ghost use Rattle.std.specs.Prelude.{IsTrue};
+    ghost use Rattle.std.specs.Prelude.{IsTrue, IfOk};
     ghost use Rattle.folder_base.specs.Disk.{created, appended, cut_to, synced, renamed, removed, settled};
-    ghost use Rattle.folder_base.specs.Line.{line_owns, line_names, AreLines, HandsOut, LineSteps};
+    ghost use Rattle.folder_base.specs.Line.{line_owns, line_names, line_story, AreLines, HandsOut, LineSteps};
     ghost use Rattle.folder_base.specs.Steps.{is_there, is_free, is_any};
+    ghost use Rattle.folder_base.specs.Undo.{IsReplayed};
 
     /// Makes an empty file. Answers whether the name was free.
     pub(crate) fn create(&mut self, alloc: Global, name: &str) -> Result<bool, OutOfMemory>
@@ -102,6 +104,20 @@ impl Line {
         ensures { LineSteps is_any settled self.old self.new result }
     {
         settle_step(&mut self.steps, &mut self.files)
+    }
+
+    /// Makes its steps again, where it has all of a folder's names.
+    pub(crate) fn replay(&self, alloc: Global) -> Result<Replay, OutOfMemory>
+        ensures { IfOk result (λ replay. IsReplayed (line_story self.now).now replay) }
+    {
+        match self.side {
+            Side::All => {
+                let mut replay = self.log.replay(alloc)?;
+                make_all(alloc, &mut replay, &self.steps)?;
+                Ok(replay)
+            }
+            _ => Err(OutOfMemory),
+        }
     }
 
     /// Moves its steps into the log, before parts with these stems are handed out.

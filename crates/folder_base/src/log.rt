@@ -2,6 +2,7 @@ ghost use Rattle.folder_base.specs.Parts.{AreApart, AreApart-prop};
 
 use crate::file::File;
 use crate::plan::Plan;
+use crate::replay::{Replay, make_all};
 use crate::round::Round;
 use crate::step::Step;
 use std::alloc::Global;
@@ -23,7 +24,10 @@ pub(crate) struct Log {
 
 impl Log {
     ghost use Rattle.std.specs.Prelude.{◌<◌, map, vec_len, vec_capacity};
+    ghost use Rattle.std.specs.Prelude.{IfOk};
+    ghost use Rattle.folder_base.specs.Log.{log_story};
     ghost use Rattle.folder_base.specs.Logged.{IsSealed, IsClosed};
+    ghost use Rattle.folder_base.specs.Undo.{IsReplayed};
 
     /// Takes these steps over, before parts with these stems are handed out.
     pub(crate) fn seal(
@@ -52,5 +56,17 @@ impl Log {
             rest,
             parts,
         });
+    }
+
+    /// Makes its steps again, where no part was ever handed out.
+    pub(crate) fn replay(&self, alloc: Global) -> Result<Replay, OutOfMemory>
+        ensures { IfOk result (λ replay. IsReplayed (log_story self.now).now replay) }
+    {
+        if !self.rounds.is_empty() {
+            return Err(OutOfMemory);
+        }
+        let mut replay = Replay::new(alloc, &self.birth)?;
+        make_all(alloc, &mut replay, &self.steps)?;
+        Ok(replay)
     }
 }

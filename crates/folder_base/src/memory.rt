@@ -26,8 +26,10 @@ pub struct FolderMem {
 }
 
 impl FolderMem {
-    ghost use Rattle.std.specs.Prelude.{IsTrue, IsFalse, IfOk, MatchBool};
+    ghost use Rattle.std.specs.Prelude.{true, IsTrue, IsFalse, IfOk, MatchBool, option_map};
+    ghost use Rattle.folder_base.specs.Disk.{May, content};
     ghost use Rattle.folder_base.specs.Log.{stood};
+    ghost use Rattle.folder_base.specs.Stop.{stopped};
     ghost use Rattle.folder_base.specs.Plan.{plans_none, plans_call};
     ghost use Rattle.text_base.specs.Causes.{Rose};
     ghost use Rattle.folder_base.specs.Memory.{is_steady, plans, number_of, Answers, fresh};
@@ -55,6 +57,22 @@ impl FolderMem {
             refusals: 0,
             content: Content::new(alloc, files, Plan { fails, stop })?,
         })
+    }
+
+    /// The folder that a stop now leaves, where the first `kept` unsettled name changes hold and bytes
+    /// that are not lasting are `fill`: each file as long as it reads, and nothing pending. It plans
+    /// no fault and no stop.
+    pub fn after_stop(&self, alloc: Global, kept: u64, fill: u8) -> Result<FolderMem, OutOfMemory>
+        ensures told { IfOk result
+            (λ folder. world_of folder ≡ fresh true (stopped kept fill (world_of self.now).story.now)) }
+        ensures number { IfOk result (λ folder. number_of folder ≡ 0) }
+        ensures plan { IfOk result (λ folder. plans folder ≡ plans_call [] None) }
+        ensures may { IfOk result
+            (λ folder. May (world_of self.now).story.now
+            (λ name. option_map content ((world_of folder).story.now.live name))) }
+    {
+        let files = self.content.stop(alloc, kept, fill)?;
+        FolderMem::new(alloc, files, Vec::new(alloc), None)
     }
 
     // Counts the call, and answers whether it is to fail.

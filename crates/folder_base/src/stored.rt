@@ -1,4 +1,4 @@
-ghost use Rattle.std.specs.Prelude.{◌≡◌, ◌≤◌, unwrap_or, length, min, take};
+ghost use Rattle.std.specs.Prelude.{◌≡◌, ◌≤◌, ◌++◌, IfOk, unwrap_or, length, min, map, take, drop};
 ghost use Rattle.folder_base.specs.Least.{least};
 
 use std::alloc::{AllocError, Global};
@@ -13,9 +13,10 @@ pub(crate) struct Stored {
 }
 
 impl Stored {
-    ghost use Rattle.std.specs.Prelude.{IfOk, OnOk, OnErr};
+    ghost use Rattle.std.specs.Prelude.{OnOk, OnErr};
     ghost use Rattle.folder_base.specs.Disk.{longer, shorter, firm, empty_file, lasting_file};
     ghost use Rattle.folder_base.specs.Names.{ReadsAt};
+    ghost use Rattle.folder_base.specs.Stop.{filled};
     ghost use Rattle.folder_base.specs.Stored.{file_of};
 
     pub(crate) fn empty(alloc: Global) -> Stored
@@ -44,6 +45,16 @@ impl Stored {
             bytes: self.bytes.as_slice().to_vec(alloc)?,
             sure: self.sure,
         })
+    }
+
+    /// Its bytes, those that are not lasting being `fill`.
+    pub(crate) fn filled(&self, alloc: Global, fill: u8) -> Result<Vec<u8>, AllocError>
+        ensures { IfOk result (λ bytes. bytes.items ≡ filled fill (file_of self.now)) }
+    {
+        match self.sure {
+            Some(sure) => filled_behind(alloc, &self.bytes, sure, fill),
+            None => self.bytes.as_slice().to_vec(alloc),
+        }
     }
 
     /// Reads its bytes from `at` on, as many as go into the buffer.
@@ -93,6 +104,20 @@ impl Stored {
         let _ = self.bytes.len();
         self.sure = None;
     }
+}
+
+/// These bytes, all but the first `sure` of them being `fill`.
+fn filled_behind(alloc: Global, bytes: &[u8], sure: usize, fill: u8) -> Result<Vec<u8>, AllocError>
+    requires { sure ≤ length bytes.now }
+    ensures { IfOk result
+        (λ filled. filled.items ≡ take sure bytes.now ++ map (λ _. fill) (drop sure bytes.now)) }
+{
+    let (front, rest) = bytes.split_at(sure);
+    front
+        .iter()
+        .copied()
+        .chain(rest.iter().map(|_| fill))
+        .collect(alloc)
 }
 
 /// Copies as many bytes as both have room for.

@@ -1,0 +1,77 @@
+ghost use Rattle.std.specs.Prelude.{IfOk};
+ghost use Rattle.folder_base.specs.Memory.{world_of};
+ghost use Rattle.folder_base.specs.Story.{IsWhole};
+
+use super::*;
+use std::alloc::Global;
+use std::test::Fail;
+use text_base::FolderFault;
+
+// A file is written under another name, published, and put in the place of a second one.
+fn publish_twice(folder: &mut FolderMem) -> Result<(), FolderFault>
+    requires { IsWhole (world_of folder.old) }
+{
+    folder.create("a.new")?;
+    folder.append("a.new", b"whole")?;
+    folder.sync("a.new")?;
+    folder.rename("a.new", "a")?;
+    folder.settle()?;
+    folder.append("a", b" more")?;
+    folder.create("b")?;
+    folder.rename("a", "b")
+}
+
+fn after_stop_at(alloc: Global, stop: u64, kept: u64) -> Result<FolderMem, Fail>
+    ensures { IfOk result (λ folder. IsWhole (world_of folder)) }
+{
+    let mut folder = FolderMem::new(alloc, Vec::new(alloc), Vec::new(alloc), Some(stop))?;
+    let _ = publish_twice(&mut folder);
+    Ok(folder.after_stop(alloc, kept, b'.')?)
+}
+
+fn listed(alloc: Global, folder: &mut FolderMem) -> Result<String, Fail>
+    requires { IsWhole (world_of folder.old) }
+{
+    let mut listed = String::new(alloc);
+    for name in &folder.names(alloc, "")? {
+        let mut buf = [0; 16];
+        let count = folder.read_at(name.as_str(), 0, &mut buf)?;
+        listed.push_str(name.as_str())?;
+        listed.push('=')?;
+        listed.push_str(std::str::from_utf8(&buf[..count.min(16)])?)?;
+        listed.push(' ')?;
+    }
+    Ok(listed)
+}
+
+#[test]
+fn a_stop_keeps_the_first_name_changes_and_the_synced_bytes(rt: HostRuntime) -> Result<(), Fail> {
+    let alloc = rt.alloc();
+    for (stop, kept, wanted) in [
+        (0, 9, ""),
+        (1, 0, ""),
+        (1, 1, "a.new= "),
+        (2, 0, ""),
+        (2, 1, "a.new=..... "),
+        (3, 0, ""),
+        (3, 1, "a.new=whole "),
+        (4, 0, ""),
+        (4, 1, "a.new=whole "),
+        (4, 2, "a=whole "),
+        (5, 0, "a=whole "),
+        (6, 0, "a=whole..... "),
+        (7, 0, "a=whole..... "),
+        (7, 1, "a=whole..... b= "),
+        (8, 0, "a=whole..... "),
+        (8, 1, "a=whole..... b= "),
+        (8, 2, "b=whole..... "),
+    ] {
+        let mut folder = after_stop_at(alloc, stop, kept)?;
+        assert_eq!(rt;
+            listed(alloc, &mut folder)?.as_str(),
+            wanted,
+            "stop {stop}, kept {kept}"
+        );
+    }
+    Ok(())
+}
