@@ -9,3 +9,7 @@ pub mod LinesLemmas
 pub mod RequestLemmas
 pub mod AddressLemmas
 pub mod TryLemmas
+pub mod HonestHeadLemmas
+pub mod AskedLemmas
+pub mod WorldLemmas
+pub mod ServedLemmas

@@ -72,7 +72,7 @@ pub decimal_clean : (n : ℕ) → n < 2 ^ 64 → All IsClean (decimal n)
 decimal_clean n fits =
     All-from_get_or IsClean (decimal n) 0 (λ i inside. digit_clean _ (digits_decimal (numerals_by_value _ tells_by_index) n (omega (arith, fits)) i inside))
 
-port_clean : (port : ℕ) → port < 2 ^ 64 → All IsClean (port_text port)
+pub port_clean : (port : ℕ) → port < 2 ^ 64 → All IsClean (port_text port)
 port_clean port fits =
     elim (cases_Bool (port == 80)) [
       | inl usual ↦ rw usual (All-nil IsClean)
@@ -85,7 +85,7 @@ name_byte_clean b passes = grind (arith, nat_tests)
 value_byte_clean : (b : ℕ) → Passes is_value_byte b → IsClean b
 value_byte_clean b passes = grind (arith, nat_tests)
 
-field_clean : (h : Header) → is_sent h ≡ true → All IsClean (h.name ++ codes ": " ++ h.value)
+pub field_clean : (h : Header) → is_sent h ≡ true → All IsClean (h.name ++ codes ": " ++ h.value)
 field_clean h sent =
     let both = and_parts _ _ sent in
     let parts = and_parts _ _ both.0 in
@@ -126,7 +126,8 @@ tail_lines headers from fits =
     (range_lines from _ fits
     (lines_line (codes "Connection: close") _ (omega arith) (All_from_list_all is_clean (codes "Connection: close") refl) lines_end)))
 
-split : (a b c d e f g : List ℕ) → a ++ b ++ c ++ d ++ e ++ f ++ g ≡ a ++ (b ++ (c ++ (d ++ (e ++ (f ++ g)))))
+-- a request, one line behind the other
+pub split : (a b c d e f g : List ℕ) → a ++ b ++ c ++ d ++ e ++ f ++ g ≡ a ++ (b ++ (c ++ (d ++ (e ++ (f ++ g)))))
 split a b c d e f g = simp append_assoc
 
 pub request_lines : (to : Address) (headers : List Header) (from : ℕ) → All IsClean to.place.host → All IsClean to.target

@@ -6,5 +6,7 @@ pub mod Body
 pub mod Taking
 pub mod Try
 pub mod Turns
+pub mod Asked
+pub mod Replies
 pub mod Memory
 pub mod MemoryDialer

@@ -1,5 +1,5 @@
 -- What a dialer in memory plans.
-use Rattle.std.specs.Prelude.{Bool, true, false, List}
+use Rattle.std.specs.Prelude.{ℕ, Bool, true, false, List, slice_index_or}
 use Rattle.std.specs.List.{list_all}
 use Rattle.link_http.specs.declared.turn.Turn.{Turn}
 use Rattle.link_http.specs.declared.turn.Turn.TheVariants.{Honest, Whole, Cut, Status, Raw, DialFails, SendFails, RecvFails}
@@ -18,3 +18,22 @@ is_steady (RecvFails n) = false
 -- no call at all is
 abbrev pub plans_no_fault : List Turn → Bool
 plans_no_fault script = list_all is_steady script
+
+-- the turn answers each request for a resource by a whole honest reply
+abbrev pub is_whole : Turn → Bool
+is_whole Honest = true
+is_whole Whole = true
+is_whole (Cut n) = false
+is_whole (Status code) = false
+is_whole (Raw bytes) = false
+is_whole DialFails = true
+is_whole SendFails = true
+is_whole (RecvFails n) = true
+
+-- each turn does
+abbrev pub plans_whole_replies : List Turn → Bool
+plans_whole_replies script = list_all is_whole script
+
+-- the turn of a dial: later ones are honest
+abbrev pub turn_at : List Turn → ℕ → Turn
+turn_at script n = slice_index_or script n Honest

@@ -1,13 +1,17 @@
-ghost use Rattle.std.specs.Prelude.{◌≡◌};
+ghost use Rattle.std.specs.Prelude.{◌≡◌, map, Some, None, IfOk, if◌then◌else◌};
+ghost use Rattle.std.specs.Str.{is_utf8};
+ghost use Rattle.link_http.specs.Memory.{asked_texts, talk_of, world_at, world_of};
 ghost use Rattle.link_http.specs.Turns.{plans_no_fault};
 ghost use Rattle.link_http.specs.Wire.{ends_request};
 
 use crate::dialer::Dialer;
+use crate::mem_asked::{asked_bytes, asked_from};
 use crate::mem_dial::MemDial;
 use crate::mem_line::MemLine;
 use crate::mem_reply::reply_to;
 use crate::mem_talk::MemTalk;
 use crate::page::Page;
+use crate::resource::Resource;
 use crate::turn::Turn;
 use std::alloc::Global;
 use text_base::{Failed, FolderFault, OutOfMemory, Text};
@@ -17,7 +21,7 @@ use text_base::{Failed, FolderFault, OutOfMemory, Text};
 #[derive(Drop)]
 pub struct DialerMem {
     alloc: Global,
-    pages: Vec<Page>,
+    resources: Vec<Resource>,
     script: Vec<Turn>,
     steady: bool,
     faults: u64,
@@ -25,6 +29,7 @@ pub struct DialerMem {
     talks: Vec<MemTalk>,
     requests: Vec<Text>,
     line: Option<MemLine>,
+    ghost listed: { requests.items ≡ asked_texts (map talk_of talks.items) },
 }
 
 /// Whether no turn plans a fault.
@@ -34,21 +39,37 @@ fn plans_no_fault(script: &[Turn]) -> bool
     script.iter().all(|turn| turn.is_steady())
 }
 
+/// The resources of pages, those whose URLs lead anywhere.
+fn placed(alloc: Global, pages: Vec<Page>) -> Result<Vec<Resource>, OutOfMemory>
+    ensures { IfOk result (λ resources. world_at resources.items ≡ world_of pages.items) }
+{
+    let mut resources = Vec::new(alloc);
+    for page in pages {
+        if let Some(resource) = Resource::of(alloc, page)? {
+            resources.push(resource)?;
+        }
+    }
+    Ok(resources)
+}
+
 impl DialerMem {
-    ghost use Rattle.std.specs.Prelude.{◌≤◌, ◌++◌, ◌∷◌, [], map, true, None, IsTrue, IsFalse, IfOk, OnOk, OnErr};
+    ghost use Rattle.std.specs.Prelude.{◌≤◌, ◌++◌, ◌∷◌, [], true, IsTrue, IsFalse, OnOk, OnErr};
     ghost use Rattle.text_base.specs.Causes.{Rose};
-    ghost use Rattle.link_http.specs.Memory.{wire_by, place_of, talk_of, connection_of, SendsText};
+    ghost use Rattle.link_http.specs.Memory.{wire_by, place_of, connection_of, SendsText};
+    ghost use Rattle.link_http.specs.Turns.{plans_whole_replies};
     ghost use Rattle.link_http.specs.MemoryDialer.{wire_of};
 
     /// A dialer for these pages by this script. It tells, and goes on telling.
     pub fn new(alloc: Global, world: Vec<Page>, script: Vec<Turn>) -> Result<DialerMem, OutOfMemory>
         ensures { IfOk result (λ dialer. wire_of dialer
-            ≡ wire_by (plans_no_fault script.items) world.items 0 [] [] None) }
+            ≡ wire_by (plans_no_fault script.items) (plans_whole_replies script.items)
+            (world_of world.items) 0 [] [] None) }
     {
         let steady = plans_no_fault(&script);
+        let resources = placed(alloc, world)?;
         Ok(DialerMem {
             alloc,
-            pages: world,
+            resources,
             script,
             steady,
             faults: 0,
@@ -61,7 +82,8 @@ impl DialerMem {
 
     /// The texts of the requests that were asked.
     pub fn asked(&self) -> &Vec<Text>
-        ensures { IsTrue (wire_of self.now).tells }
+        ensures tells { IsTrue (wire_of self.now).tells }
+        ensures listed { result.now.items ≡ asked_texts (wire_of self.now).talks }
     {
         &self.requests
     }
@@ -113,10 +135,15 @@ impl DialerMem {
 
     /// Adds what was sent, and answers it where it is a whole request.
     fn add_sent(&mut self, line: &mut MemLine, bytes: &[u8]) -> Result<(), OutOfMemory>
-        ensures same { self.new ≡ record self.old { talks = self.new.talks; requests = self.new.requests } }
+        ensures same { self.new ≡ record self.old {
+          talks = self.new.talks;
+          requests = self.new.requests;
+          listed = self.new.listed;
+        } }
         ensures place { place_of line.new.dial ≡ place_of line.old.dial }
         ensures ok { OnOk result (let text = line.old.sent.items ++ bytes.now in
-            SendsText (ends_request text) text line.old line.new self.old.talks.items self.new.talks.items) }
+            SendsText (ends_request text) self.old.script.items self.old.resources.items text
+            line.old line.new self.old.talks.items self.new.talks.items) }
         ensures err { OnErr result (map talk_of self.new.talks.items ≡ map talk_of self.old.talks.items) }
     {
         line.sent.extend_from_slice(bytes)?;
@@ -128,36 +155,59 @@ impl DialerMem {
 
     /// Answers the request that was sent.
     fn answer(&mut self, line: &mut MemLine) -> Result<(), OutOfMemory>
-        ensures same { self.new ≡ record self.old { talks = self.new.talks; requests = self.new.requests } }
+        ensures same { self.new ≡ record self.old {
+          talks = self.new.talks;
+          requests = self.new.requests;
+          listed = self.new.listed;
+        } }
         ensures place { place_of line.new.dial ≡ place_of line.old.dial }
-        ensures ok { OnOk result (SendsText true line.old.sent.items line.old line.new
-            self.old.talks.items self.new.talks.items) }
+        ensures ok { OnOk result (SendsText true self.old.script.items self.old.resources.items
+            line.old.sent.items line.old line.new self.old.talks.items self.new.talks.items) }
         ensures err { OnErr result (map talk_of self.new.talks.items ≡ map talk_of self.old.talks.items) }
     {
-        let turn = self.script.get(line.turn);
-        let reply = reply_to(self.alloc, &self.pages, turn, &line.dial, &line.sent)?;
+        let honest = Turn::Honest;
+        let turn = self.script.get(line.turn).unwrap_or(&honest);
+        let found = asked_bytes(&self.resources, &line.dial, &line.sent);
+        let reply = reply_to(self.alloc, turn, found, asked_from(&line.sent))?;
         let talk = MemTalk {
             dial: line.dial.copy(self.alloc)?,
             request: Vec::from_slice(self.alloc, &line.sent)?,
             reply: Vec::from_slice(self.alloc, &reply)?,
         };
-        self.list_request(&line.sent)?;
-        self.talks.push(talk)?;
+        self.note_talk(talk)?;
         line.sent.clear();
         line.reply = reply;
         line.at = 0;
         Ok(())
     }
 
-    /// Lists a request, if it is text.
-    fn list_request(&mut self, request: &[u8]) -> Result<(), OutOfMemory>
-        ensures same { self.new ≡ record self.old { requests = self.new.requests } }
+    /// Tells a talk, and lists its request, if it is text.
+    fn note_talk(&mut self, talk: MemTalk) -> Result<(), OutOfMemory>
+        ensures same { self.new ≡ record self.old {
+          talks = self.new.talks;
+          requests = self.new.requests;
+          listed = self.new.listed;
+        } }
+        ensures ok { OnOk result (self.new.talks.items ≡ self.old.talks.items ++ talk ∷ []) }
+        ensures err { OnErr result (self.new.talks.items ≡ self.old.talks.items) }
     {
-        if let Ok(text) = str::from_utf8(request) {
-            let text = Text::new(self.alloc, text)?;
+        let text = read_text(self.alloc, &talk.request)?;
+        self.talks.reserve(1)?;
+        if let Some(text) = text {
             self.requests.push(text)?;
         }
+        self.talks.push(talk)?;
         Ok(())
+    }
+}
+
+/// A request, if it is text.
+fn read_text(alloc: Global, request: &[u8]) -> Result<Option<Text>, OutOfMemory>
+    ensures { IfOk result (λ text. text ≡ (if is_utf8 request.now then Some request.now else None)) }
+{
+    match str::from_utf8(request) {
+        Ok(text) => Ok(Some(Text::new(alloc, text)?)),
+        Err(_) => Ok(None),
     }
 }
 

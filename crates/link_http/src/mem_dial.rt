@@ -1,3 +1,5 @@
+ghost use Rattle.std.specs.Prelude.{◌<◌};
+
 use std::alloc::Global;
 use text_base::{OutOfMemory, Text};
 
@@ -6,6 +8,7 @@ use text_base::{OutOfMemory, Text};
 pub struct MemDial {
     pub host: Text,
     pub port: u16,
+    ghost fits: { port < 65536 },
 }
 
 impl MemDial {

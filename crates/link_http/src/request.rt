@@ -41,7 +41,7 @@ pub fn request_text(
 }
 
 /// The line with the method and the target.
-fn put_target(text: &mut Vec<u8>, url: &Url) -> Result<(), OutOfMemory>
+pub fn put_target(text: &mut Vec<u8>, url: &Url) -> Result<(), OutOfMemory>
     ensures { let target = line (codes "GET " ++ target_of url.now ++ codes " HTTP/1.1") in
         OnOk result (text.new.items ≡ text.old.items ++ target) }
 {
