@@ -113,3 +113,22 @@ world_still resources pages page so placed url =
     ∙ ap (λ (o : Option (List ℕ)). option_or (world_of pages url) o)
     (let none = leads_nowhere (address page.url) (address url) page.bytes.items placed in rw none refl)
     ∙ sym (of_push pages page url)
+
+lead_nowhere : (a b : Result Address PieceFault) (e : PieceFault) → b ≡ Err e → lead_alike a b ≡ false
+lead_nowhere (Ok x) (Ok y) e is = absurd (cc)
+lead_nowhere (Ok x) (Err f) e is = refl
+lead_nowhere (Err f) b e is = refl
+
+nothing_there : (pages : List Page) (url : List ℕ) (e : PieceFault) → address url ≡ Err e → world_of pages url ≡ None
+nothing_there [] url e is = refl
+nothing_there (page ∷ pages) url e is =
+    rw (lead_nowhere (address page.url) (address url) e is) (nothing_there pages url e is)
+
+leads_by : (a : Result Address PieceFault) (pages : List Page) (url bytes : List ℕ) → address url ≡ a → world_of pages url ≡ Some bytes
+    → (to : Address) × (address url ≡ Ok to)
+leads_by (Ok to) pages url bytes is there = (to, is)
+leads_by (Err e) pages url bytes is there = let none : world_of pages url ≡ None = nothing_there pages url e is in absurd (cc)
+
+-- An URL of the world leads somewhere.
+pub world_leads : (pages : List Page) (url bytes : List ℕ) → world_of pages url ≡ Some bytes → (to : Address) × (address url ≡ Ok to)
+world_leads pages url bytes there = leads_by (address url) pages url bytes refl there
