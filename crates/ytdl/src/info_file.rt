@@ -1,66 +1,51 @@
-ghost use Rattle.std.specs.Prelude.{◌≡◌, None, false};
+ghost use Rattle.std.specs.Prelude.{◌≡◌, false, is_some, option_and_then};
 
-use std::fs::{self, File};
+use crate::opener::Opener;
 use std::io::Read;
 use text_base::Failed;
 use ytdl_core::InfoSource;
 
-/// The name that stands for standard input.
-const STANDARD_INPUT: &str = "-";
-
-/// What information is read from.
+/// A file of information behind an opener: it tells what the opener and its reader tell.
 #[derive(Drop)]
-enum Opened {
-    File(File),
-    Input,
-}
-
-/// The named file of the system, or standard input. It tells no content.
-#[derive(Drop)]
-pub struct InfoFile<'a> {
-    rt: &'a HostRuntime,
-    opened: Option<Opened>,
-    is_open: bool,
+pub struct InfoFile<O: Opener + Drop> {
+    opener: O,
+    reader: Option<O::Reader>,
     faults: u64,
 }
 
-impl<'a> InfoFile<'a> {
-    pub fn new(rt: &'a HostRuntime) -> Self
-        ensures { result.is_open ≡ false }
+impl<O: Opener + Drop> InfoFile<O> {
+    /// A file that was not opened.
+    pub fn new(opener: O) -> Self
+        ensures closed { ⟦<InfoFile<O> as InfoSource>⟧.is_open result ≡ false }
+        ensures faults { ⟦<InfoFile<O> as InfoSource>⟧.faults result ≡ 0 }
+        ensures file { ⟦<InfoFile<O> as InfoSource>⟧.file result ≡ O.file opener }
     {
         InfoFile {
-            rt,
-            opened: None,
-            is_open: false,
+            opener,
+            reader: None,
             faults: 0,
         }
     }
 }
 
-impl InfoSource for InfoFile<'_> {
-    ghost file = { λ s. None };
+impl<O: Opener + Drop> InfoSource for InfoFile<O> {
+    ghost file = { λ s. O.file s.opener };
 
-    ghost left = { λ s. None };
+    ghost left = { λ s. option_and_then O.Reader.Read.remaining s.reader };
 
-    ghost is_open = { λ s. s.is_open };
+    ghost is_open = { λ s. is_some s.reader };
 
     ghost faults = { λ s. s.faults };
 
     ghost is_steady = { λ s. false };
 
     fn open(&mut self, name: &str) -> Result<(), Failed> {
-        if name == STANDARD_INPUT {
-            self.opened = Some(Opened::Input);
-            self.is_open = true;
-            return Ok(());
-        }
-        match fs::open(self.rt, name) {
-            Ok(file) => {
-                self.opened = Some(Opened::File(file));
-                self.is_open = true;
+        match self.opener.open(name) {
+            Ok(reader) => {
+                self.reader = Some(reader);
                 Ok(())
             }
-            Err(_) => {
+            Err(Failed) => {
                 self.faults = self.faults.saturating_add(1);
                 Err(Failed)
             }
@@ -68,12 +53,10 @@ impl InfoSource for InfoFile<'_> {
     }
 
     fn read(&mut self, buf: &mut [u8]) -> Result<usize, Failed> {
-        let read = match &mut self.opened {
-            Some(Opened::File(file)) => file.read(buf),
-            Some(Opened::Input) => self.rt.stdin().read(buf),
-            None => Ok(0),
+        let Some(reader) = &mut self.reader else {
+            unreachable!()
         };
-        match read {
+        match reader.read(buf) {
             Ok(count) => Ok(count),
             Err(_) => {
                 self.faults = self.faults.saturating_add(1);

@@ -2,7 +2,10 @@
 #![tactic(auto)]
 
 mod info_file;
+mod opener;
 mod output;
+mod system_opener;
+mod system_reader;
 #[cfg(test)]
 mod tests;
 
@@ -11,6 +14,7 @@ use output::Output;
 use std::alloc::Global;
 use std::env;
 use std::process::ExitCode;
+use system_opener::SystemOpener;
 use text_base::Text;
 use ytdl_core::{run, status};
 
@@ -34,7 +38,7 @@ fn main(rt: HostRuntime) -> ExitCode {
         let _ = eprintln!(rt; "ERROR: a word of the command line is not UTF-8");
         return ExitCode::from(BAD_WORDS);
     };
-    let mut info = InfoFile::new(&rt);
+    let mut info = InfoFile::new(SystemOpener { rt: &rt });
     let mut out = Output::new(rt.stdout());
     let mut err = Output::new(rt.stderr());
     let end = run(alloc, &words, &mut info, &mut out, &mut err);

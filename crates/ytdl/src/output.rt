@@ -1,10 +1,10 @@
-ghost use Rattle.std.specs.Prelude.{◌≡◌, None, false};
+ghost use Rattle.std.specs.Prelude.{◌≡◌, false};
 
-use std::io::Write;
+use std::io::{ErrorKind, Write};
 use text_base::FolderFault;
 use ytdl_core::Sink;
 
-/// A stream of the system. It tells no content.
+/// A stream that bytes are written to: it tells what the stream tells.
 #[derive(Drop)]
 pub struct Output<W: Write + Drop> {
     inner: W,
@@ -12,13 +12,16 @@ pub struct Output<W: Write + Drop> {
 }
 
 impl<W: Write + Drop> Output<W> {
-    pub fn new(inner: W) -> Self {
+    pub fn new(inner: W) -> Self
+        ensures faults { ⟦<Output<W> as Sink>⟧.faults result ≡ 0 }
+        ensures written { ⟦<Output<W> as Sink>⟧.written result ≡ W.contents inner }
+    {
         Output { inner, faults: 0 }
     }
 }
 
 impl<W: Write + Drop> Sink for Output<W> {
-    ghost written = { λ s. None };
+    ghost written = { λ s. W.contents s.inner };
 
     ghost faults = { λ s. s.faults };
 
@@ -27,12 +30,19 @@ impl<W: Write + Drop> Sink for Output<W> {
     ghost is_steady = { λ s. false };
 
     fn put(&mut self, bytes: &[u8]) -> Result<(), FolderFault> {
-        match self.inner.write_all(bytes) {
-            Ok(()) => Ok(()),
-            Err(_) => {
-                self.faults = self.faults.saturating_add(1);
-                Err(FolderFault::Failed)
+        let mut rest = bytes;
+        for _ in 0..u64::MAX {
+            if rest.is_empty() {
+                return Ok(());
+            }
+            match self.inner.write(rest) {
+                Ok(0) => break,
+                Ok(n) => rest = &rest[n..],
+                Err(fault) if fault.kind() == ErrorKind::Interrupted => {}
+                Err(_) => break,
             }
         }
+        self.faults = self.faults.saturating_add(1);
+        Err(FolderFault::Failed)
     }
 }

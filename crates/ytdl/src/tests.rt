@@ -6,7 +6,7 @@ use ytdl_core::{InfoSource, Sink};
 #[test]
 fn a_file_is_read_to_its_end(rt: HostRuntime) -> Result<(), Fail> {
     fs::write(&rt, "info.json", "{\"id\":1}")?;
-    let mut info = InfoFile::new(&rt);
+    let mut info = InfoFile::new(SystemOpener { rt: &rt });
     assert!(rt; info.open("missing.json").is_err());
     assert!(rt; info.open("info.json").is_ok());
     let mut buf = [0u8; 64];
