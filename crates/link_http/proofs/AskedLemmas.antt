@@ -1,6 +1,6 @@
 -- What a request asks for, read back from its text.
-use Rattle.std.proofs.Common.{◌≡◌, ◌≢◌, ◌^◌, ℕ, suc, ◌+◌, ◌<◌, ◌≤◌, List, [], ◌∷◌, ◌++◌, length, take, drop, get_or, refl, sym, ap, ◌∙◌, subst, arith, append_assoc, append-nil, length-append, add-one, drop-cons, true, false, inl, inr}
-use Rattle.std.specs.Prelude.{Bool, not, All, Option, Some, None, ◌==◌, ◌&&◌, nat_eq, codes, decimal, bytes_eq}
+use Rattle.std.proofs.Common.{◌≡◌, ◌≢◌, ◌^◌, ℕ, suc, ◌+◌, ◌<◌, ◌≤◌, List, [], ◌∷◌, ◌++◌, length, drop, get_or, refl, sym, ap, ◌∙◌, arith, append_assoc, length-append, add-one, drop-cons, true, false, inl, inr}
+use Rattle.std.specs.Prelude.{Bool, not, All, Option, Some, ◌==◌, nat_eq, codes, decimal, bytes_eq}
 use Rattle.std.specs.List.{starts_with, list_all}
 use Rattle.std.specs.Option.{option_map_or}
 use Rattle.std.specs.Char.{is_ascii_digit}
@@ -17,7 +17,7 @@ use Rattle.link_http.specs.declared.header.Header.{Header}
 use Rattle.link_http.specs.Asked.{get_line, is_line, range_text, number_before, asked_from}
 use Rattle.link_http.specs.Request.{Address, line, field_line, fields_text, is_sent, is_own_name, port_text, range_line, request}
 use Rattle.link_http.specs.Sending.{IsClean, is_clean}
-use Rattle.link_http.proofs.HonestHeadLemmas.{prefix_at, decimal_digits, decimal_value}
+use Rattle.link_http.proofs.NumberLemmas.{prefix_at, decimal_digits, decimal_value}
 use Rattle.link_http.proofs.RequestLemmas.{field_clean, port_clean, split}
 
 -- ---- one line

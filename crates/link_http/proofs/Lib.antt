@@ -9,6 +9,7 @@ pub mod LinesLemmas
 pub mod RequestLemmas
 pub mod AddressLemmas
 pub mod TryLemmas
+pub mod NumberLemmas
 pub mod HonestHeadLemmas
 pub mod AskedLemmas
 pub mod WorldLemmas

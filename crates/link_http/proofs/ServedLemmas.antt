@@ -1,14 +1,13 @@
 -- A dialer in memory serves its world.
-use Rattle.std.proofs.Common.{◌≡◌, ◌^◌, ℕ, zero, suc, ◌+◌, ◌<◌, ◌≤◌, List, [], ◌∷◌, ◌++◌, length, drop, get_or, refl, sym, ap, ◌∙◌, subst, arith, true, false, inl, inr, Ok, Err, Bor}
-use Rattle.std.specs.Prelude.{Bool, ◌&&◌, ◌==◌, IsTrue, All, nat_eq, bytes_eq, Option, Some, None, Result, option_map, unwrap_or}
-use Rattle.std.specs.List.{find, list_all, starts_with}
+use Rattle.std.proofs.Common.{◌≡◌, ◌^◌, ℕ, zero, suc, ◌<◌, ◌≤◌, List, [], ◌∷◌, ◌++◌, length, get_or, refl, sym, ap, ◌∙◌, subst, arith, true, inl, inr, Ok, Bor}
+use Rattle.std.specs.Prelude.{Bool, ◌&&◌, ◌==◌, IsTrue, All, bytes_eq, Option, Some, None, Result, option_map, unwrap_or}
+use Rattle.std.specs.List.{find}
 use Rattle.std.proofs.lemmas.Bool.{cases_Bool, and_parts}
 use Rattle.std.proofs.lemmas.Slice.Eq.{bytes_eq-Decides}
 use Rattle.std.proofs.lemmas.Bool.Decides.{Decides-eqb}
 use Rattle.url.proofs.InputLemmas.{All_from_list_all}
 use Rattle.http_reply.specs.declared.piece_fault.PieceFault.{PieceFault}
 use Rattle.http_reply.specs.Truth.{IsHonest}
-use Rattle.link_http.specs.declared.header.Header.{Header}
 use Rattle.link_http.specs.declared.mem_line.MemLine.{MemLine}
 use Rattle.link_http.specs.declared.resource.Resource.{Resource}
 use Rattle.link_http.specs.declared.turn.Turn.{Turn}
@@ -16,7 +15,7 @@ use Rattle.link_http.specs.declared.turn.Turn.TheVariants.{Honest, Whole, Cut, S
 use Rattle.link_http.specs.Asked.{get_line, is_line, asked_from}
 use Rattle.link_http.specs.Replies.{reply_of}
 use Rattle.link_http.specs.Turns.{is_whole, plans_whole_replies, turn_at}
-use Rattle.link_http.specs.Request.{Address, Place, address, request}
+use Rattle.link_http.specs.Request.{Address}
 use Rattle.link_http.specs.Sending.{IsClean, is_clean}
 use Rattle.link_http.specs.Wire.{IsServed}
 use Rattle.link_http.specs.Memory.{place_of, leads_to, world_at, asks_for, asked_bytes, reply_at}
@@ -66,7 +65,7 @@ found_one to r bytes leads is =
     let port : r.dial.port ≡ to.place.port = (Decides-eqb r.dial.port to.place.port).0 places.1 in
     let line : r.line.items ≡ get_line to.target = (bytes_eq-Decides r.line.items (get_line to.target)).0 both.1 in
     record {
-      line = subst (λ (l : List ℕ). is_line l ≡ true) line r.one;
+      line = subst (λ (l : List ℕ). is_line l ≡ true) line r.one_line;
       host = subst (All IsClean) host (All_from_list_all is_clean r.dial.host r.host);
       port = omega (arith, port, r.dial.fits);
       small = subst (λ (l : List ℕ). length l < 2 ^ 64) is (omega (arith, r.bytes.ok.0, r.bytes.ok.1, r.bytes.small));
@@ -85,7 +84,7 @@ found (r ∷ resources) to bytes there =
 asks_leads : (to : Address) (text rest : List ℕ) (r : Resource) → is_line (get_line to.target) ≡ true → text ≡ get_line to.target ++ rest
     → asks_for to.place text r ≡ leads_to (Ok to) r
 asks_leads to text rest r one is =
-    ap (λ (b : Bool). bytes_eq r.dial.host to.place.host && r.dial.port == to.place.port && b) (begins_same text (get_line to.target) rest r.line.items one r.one is)
+    ap (λ (b : Bool). bytes_eq r.dial.host to.place.host && r.dial.port == to.place.port && b) (begins_same text (get_line to.target) rest r.line.items one r.one_line is)
 
 asked_there : (resources : List Resource) (to : Address) (text rest : List ℕ) → is_line (get_line to.target) ≡ true → text ≡ get_line to.target ++ rest
     → asked_bytes resources to.place text ≡ option_map (λ (r : Resource). r.bytes.items) (find (leads_to (Ok to)) resources)

@@ -1,8 +1,7 @@
 -- The world of a dialer in memory, and what of it is asked.
-use Rattle.std.proofs.Common.{◌≡◌, ℕ, suc, ◌+◌, ◌<◌, ◌≤◌, List, [], ◌∷◌, ◌++◌, length, drop, get_or, refl, sym, ap, ◌∙◌, add-one, drop-cons, true, false, inl, inr, Ok, Err}
-use Rattle.std.specs.Prelude.{Bool, ◌&&◌, ◌==◌, bytes_eq, codes, Option, Some, None, Result, option_map}
+use Rattle.std.proofs.Common.{◌≡◌, ℕ, ◌+◌, ◌<◌, ◌≤◌, List, [], ◌∷◌, ◌++◌, length, drop, get_or, refl, sym, ap, ◌∙◌, add-one, drop-cons, true, false, inl, inr, Ok, Err}
+use Rattle.std.specs.Prelude.{Bool, ◌&&◌, ◌==◌, bytes_eq, codes, Option, Some, None, Result}
 use Rattle.std.specs.Option.{option_or}
-use Rattle.std.specs.List.{find}
 use Rattle.std.proofs.lemmas.Bool.{cases_Bool}
 use Rattle.std.proofs.lemmas.List.{drop_all, append_cancel_right}
 use Rattle.std.proofs.lemmas.Slice.Eq.{bytes_eq-Decides}

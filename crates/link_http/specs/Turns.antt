@@ -19,7 +19,7 @@ is_steady (RecvFails n) = false
 abbrev pub plans_no_fault : List Turn → Bool
 plans_no_fault script = list_all is_steady script
 
--- the turn answers each request for a resource by a whole honest reply
+-- each reply of the turn to a request for a resource is a whole honest one
 abbrev pub is_whole : Turn → Bool
 is_whole Honest = true
 is_whole Whole = true
@@ -30,7 +30,7 @@ is_whole DialFails = true
 is_whole SendFails = true
 is_whole (RecvFails n) = true
 
--- each turn does
+-- the replies of each turn are
 abbrev pub plans_whole_replies : List Turn → Bool
 plans_whole_replies script = list_all is_whole script
 

@@ -19,7 +19,7 @@ pub struct Resource {
     pub line: Vec<u8>,
     pub bytes: Vec<u8>,
     ghost host: { list_all is_clean dial.host ≡ true },
-    ghost one: { is_line line.items ≡ true },
+    ghost one_line: { is_line line.items ≡ true },
 }
 
 impl Resource {

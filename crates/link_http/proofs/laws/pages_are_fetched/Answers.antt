@@ -1,4 +1,4 @@
-use Rattle.std.proofs.Common.{◌≡◌, ap, ◌∙◌, refl, inl}
+use Rattle.std.proofs.Common.{ap, ◌∙◌, refl, inl}
 use Rattle.link_http.specs.Wire.{Wire}
 use Rattle.link_http.proofs.WorldLemmas.{world_leads}
 use Rattle.link_http.proofs.laws.pages_are_fetched.Goals as goal

@@ -1,4 +1,4 @@
-use Rattle.std.proofs.Common.{◌≡◌, ℕ, ◌<◌, sym, ◌∙◌, get_or, true, false, arith}
+use Rattle.std.proofs.Common.{◌≡◌, ℕ, sym, ◌∙◌, get_or, true, false, arith}
 use Rattle.std.specs.Char.{is_ascii_digit}
 use Rattle.std.proofs.lemmas.List.Sums.{prefix_len_is}
 use Rattle.http_reply.proofs.FieldLemmas.{number_more}

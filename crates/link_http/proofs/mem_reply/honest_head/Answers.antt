@@ -1,4 +1,4 @@
-use Rattle.std.proofs.Common.{◌≡◌, ◌∙◌, ◌<◌, false, true, append_assoc}
+use Rattle.std.proofs.Common.{◌≡◌, ◌∙◌, false, true, append_assoc}
 use Rattle.std.specs.Prelude.{◌==◌, nat_lt}
 use Rattle.std.proofs.lemmas.Bool.{lt-ltb, le-ltb, ne_eqb}
 use Rattle.link_http.proofs.HonestHeadLemmas.{part_formed, past_formed}

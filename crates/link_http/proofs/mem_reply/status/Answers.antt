@@ -1,4 +1,4 @@
-use Rattle.std.proofs.Common.{◌≡◌, ◌∙◌}
+use Rattle.std.proofs.Common.{◌∙◌}
 use Rattle.link_http.proofs.HonestHeadLemmas.{status_formed}
 use Rattle.link_http.proofs.mem_reply.status.Goals as goal
 

@@ -1,12 +1,11 @@
-use Rattle.std.proofs.Common.{◌≡◌, List, ℕ, sym, ap, ◌∙◌, drop, subst, refl, rules, arith, map, Bor}
-use Rattle.std.specs.Prelude.{Option, option_copied, unwrap_or}
+use Rattle.std.proofs.Common.{◌≡◌, List, ℕ, sym, ap, ◌∙◌, subst, rules, arith, Bor}
+use Rattle.std.specs.Prelude.{Option, option_copied}
 use Rattle.std.proofs.lemmas.Grind.{common_steps}
-use Rattle.std.proofs.lemmas.List.{map-append}
 use Rattle.link_http.specs.declared.turn.Turn.{Turn}
 use Rattle.link_http.specs.declared.turn.Turn.TheVariants.{Honest}
 use Rattle.link_http.specs.declared.resource.Resource.{Resource}
 use Rattle.link_http.specs.Asked.{asked_from}
-use Rattle.link_http.specs.Memory.{place_of, talk_of, asked_bytes, reply_at, world_at}
+use Rattle.link_http.specs.Memory.{place_of, asked_bytes, reply_at, world_at}
 use Rattle.link_http.specs.Replies.{reply_of}
 use Rattle.link_http.specs.Turns.{turn_at}
 use Rattle.link_http.specs.Wire.{IsServed}

@@ -1,10 +1,7 @@
-use Rattle.std.proofs.Common.{◌≡◌, sym, ◌∙◌, refl, ap, subst, true, List, ℕ}
-use Rattle.std.specs.List.{list_all}
-use Rattle.std.specs.Prelude.{All}
+use Rattle.std.proofs.Common.{◌≡◌, ap}
 use Rattle.url.proofs.InputLemmas.{list_all_from_All}
-use Rattle.link_http.specs.Asked.{is_line, get_line}
 use Rattle.link_http.specs.Request.{target_of, Place}
-use Rattle.link_http.specs.Sending.{is_clean, IsClean}
+use Rattle.link_http.specs.Sending.{is_clean}
 use Rattle.link_http.proofs.RequestLemmas.{target_clean}
 use Rattle.link_http.proofs.AskedLemmas.{get_line_is}
 use Rattle.link_http.proofs.resource.Resource.of.Goals as goal
@@ -16,5 +13,5 @@ invariant_of-result c =
     let same : c.in_ok-dial.dial.host ≡ host = ap (λ (p : Place). p.host) c.in_ok-dial.ensures in
     record {
       host = rw same (list_all_from_All is_clean host c.in-Ok-place_of.ensures.clean);
-      one = rw (c.in_ok-put_target.ensures, c.new-line.ensures.items) (get_line_is (target_of url) (target_clean url c.in-Ok-place_of.ensures.valid));
+      one_line = rw (c.in_ok-put_target.ensures, c.new-line.ensures.items) (get_line_is (target_of url) (target_clean url c.in-Ok-place_of.ensures.valid));
     }
