@@ -18,7 +18,7 @@ abbrev pub is_line : List ℕ → Bool
 is_line [] = false
 is_line (b ∷ text) = if is_clean b then is_line text else bytes_eq (b ∷ text) crlf_bytes
 
--- what stands behind the first `Range: bytes=` that begins a line, the first line left out
+-- what stands behind the first `Range: bytes=`, 13 bytes, that begins a line, the first line left out
 abbrev pub range_text : List ℕ → Option (List ℕ)
 range_text [] = None
 range_text (b ∷ text) =

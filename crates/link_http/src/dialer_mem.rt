@@ -59,7 +59,8 @@ impl DialerMem {
     ghost use Rattle.link_http.specs.Turns.{plans_whole_replies};
     ghost use Rattle.link_http.specs.MemoryDialer.{wire_of};
 
-    /// A dialer for these pages by this script. It tells, and goes on telling.
+    /// A dialer for these pages by this script. It tells, and goes on telling; it serves where
+    /// the script plans whole replies.
     pub fn new(alloc: Global, world: Vec<Page>, script: Vec<Turn>) -> Result<DialerMem, OutOfMemory>
         ensures { IfOk result (λ dialer. wire_of dialer
             ≡ wire_by (plans_no_fault script.items) (plans_whole_replies script.items)
