@@ -1,0 +1,5 @@
+pub mod Cut
+pub mod Number
+pub mod Path
+pub mod Reply
+pub mod Request
