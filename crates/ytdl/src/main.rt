@@ -4,8 +4,11 @@
 mod info_file;
 mod opener;
 mod output;
+#[cfg(test)]
+mod socket_tests;
 mod system_opener;
 mod system_reader;
+mod tcp_dialer;
 #[cfg(test)]
 mod tests;
 

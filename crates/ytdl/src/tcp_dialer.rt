@@ -1,0 +1,124 @@
+ghost use Rattle.std.specs.Prelude.{◌≡◌, ◌++◌, ℕ, List, false, nat_eq, is_some, codes};
+ghost use Rattle.std.specs.List.{starts_with};
+ghost use Rattle.ytdl.specs.Silent.{silent};
+
+use link_http::Dialer;
+use std::io::{self, ErrorKind, Read, Write};
+use std::net::{Net, OpenStream, TcpStream, ToSocketAddrs};
+use std::rt::Clock;
+use std::time::{Duration, Instant};
+use text_base::{Failed, FolderFault};
+
+/// The most seconds that all connects of a dial take together, and that one send or recv takes.
+const PATIENCE: u64 = 20;
+
+/// Opens connections over sockets. It tells nothing but its count of faults.
+#[derive(Drop)]
+pub struct TcpDialer<'a, N: Net + Clock> {
+    net: &'a N,
+    stream: Option<N::Stream>,
+    faults: u64,
+}
+
+impl<'a, N: Net + Clock> TcpDialer<'a, N> {
+    /// Without a connection.
+    pub fn new(net: &'a N) -> Self
+        ensures { ⟦<TcpDialer<'a, N> as Dialer>⟧.wire result ≡ silent 0 false }
+    {
+        TcpDialer {
+            net,
+            stream: None,
+            faults: 0,
+        }
+    }
+
+    /// How often it failed.
+    pub fn faults(&self) -> u64
+        ensures { result ≡ (⟦<TcpDialer<'a, N> as Dialer>⟧.wire self.now).faults }
+    {
+        self.faults
+    }
+}
+
+impl<N: Net + Clock> Dialer for TcpDialer<'_, N> {
+    ghost wire = { λ d. silent d.faults (is_some d.stream) };
+
+    fn dial(&mut self, host: &str, port: u16) -> Result<(), FolderFault> {
+        self.stream = None;
+        match connect(self.net, plain_host(host), port) {
+            Ok(stream) => {
+                self.stream = Some(stream);
+                Ok(())
+            }
+            Err(_) => {
+                self.faults = self.faults.saturating_add(1);
+                Err(FolderFault::Failed)
+            }
+        }
+    }
+
+    fn send(&mut self, bytes: &[u8]) -> Result<usize, FolderFault> {
+        let Some(stream) = &mut self.stream else {
+            unreachable!()
+        };
+        match stream.write(bytes) {
+            Ok(sent) if sent > 0 => Ok(sent),
+            _ => {
+                self.faults = self.faults.saturating_add(1);
+                Err(FolderFault::Failed)
+            }
+        }
+    }
+
+    fn recv(&mut self, buf: &mut [u8]) -> Result<usize, Failed> {
+        let Some(stream) = &mut self.stream else {
+            unreachable!()
+        };
+        match stream.read(buf) {
+            Ok(came) => Ok(came),
+            Err(_) => {
+                self.faults = self.faults.saturating_add(1);
+                Err(Failed)
+            }
+        }
+    }
+
+    fn hang_up(&mut self) {
+        self.stream = None;
+    }
+}
+
+/// A host without the brackets that stand around an IPv6 address in a URL.
+fn plain_host(host: &str) -> &str
+    ensures bracketed { (inner : List ℕ) → host.now ≡ codes "[" ++ inner ++ codes "]"
+        → result.now ≡ inner }
+    ensures plain { starts_with nat_eq host.now (codes "[") ≡ false → result.now ≡ host.now }
+{
+    let Some(inner) = host.strip_prefix("[") else {
+        return host;
+    };
+    inner.strip_suffix("]").unwrap_or(host)
+}
+
+/// Connects to the first address of a host that answers in the time that all of them have.
+fn connect<N: Net + Clock>(net: &N, host: &str, port: u16) -> io::Result<N::Stream> {
+    let addresses = (host, port).to_socket_addrs(net)?;
+    let patience = Duration::from_secs(PATIENCE);
+    let start = Instant::now(net)?;
+    let mut last = io::Error::from(ErrorKind::NotFound);
+    for address in addresses {
+        let left = patience.saturating_sub(start.elapsed(net)?);
+        if left.is_zero() {
+            return Err(io::Error::from(ErrorKind::TimedOut));
+        }
+        match TcpStream::connect_timeout(net, &address, left) {
+            Ok(stream) => {
+                stream.set_read_timeout(Some(patience))?;
+                stream.set_write_timeout(Some(patience))?;
+                return Ok(stream);
+            }
+            Err(fault) => last = fault,
+        }
+    }
+    Err(last)
+}
