@@ -1,10 +1,11 @@
 -- Files that are copied or removed name by name.
-use Rattle.std.proofs.Common.{◌≡◌, inl, inr, ℕ, Bool, true, false, ◌||◌, List, [], ◌∷◌, ◌++◌, refl, sym, ◌∙◌, ap, String, is_some, string_bytes}
+use Rattle.std.proofs.Common.{◌≡◌, ◌⊎◌, ⊎_elim, subst, inl, inr, ℕ, Bool, true, false, ◌||◌, List, [], ◌∷◌, ◌++◌, refl, sym, ◌∙◌, ap, String, is_some, string_bytes}
 use Rattle.std.specs.Prelude.{Option, Some, None, option_map, bytes_eq, if◌then◌else◌}
 use Rattle.std.specs.List.{list_any}
 use Rattle.std.specs.BTreeMap.{BTreeMap}
 use Rattle.std.specs.declared.alloc.Global.{Global}
 use Rattle.std.proofs.lemmas.List.Folds.{list_any-append}
+use Rattle.std.proofs.lemmas.Slice.Eq.{bytes_eq-Decides}
 use Rattle.folder_base.specs.Disk.{Name, File, Names, put, lasting_file}
 use Rattle.folder_base.specs.Files.{names_of, or_else, over, if_none, without}
 use Rattle.folder_base.specs.Stop.{filled, filled_names}
@@ -42,6 +43,16 @@ laid_at names from old name n = elim (same_or_not name n) [
       ∙ ap (λ (b : Bool). list_any (bytes_eq n) names || (b || false)) (swap_apart name n differs) ∙ or_false (list_any (bytes_eq n) names))
       ∙ sym (put_there (laid names from old) name n (from name) differs)
 ]
+
+-- what holds of each name among these, and of the last one
+pub any_or_last : (P : Name → Type 0) (names : List Name) (last n : Name) → (list_any (bytes_eq n) names ≡ true → P n) → P last → list_any (bytes_eq n) (names ++ last ∷ []) ≡ true → P n
+any_or_last P names last n among at_last any = ⊎_elim among
+    (λ same. subst P (sym ((bytes_eq-Decides n last).0 (sym (or_false (bytes_eq n last)) ∙ same))) at_last)
+    (some_so (list_any (bytes_eq n) names) (bytes_eq n last || false) (sym (list_any-append (bytes_eq n) names (last ∷ [])) ∙ any))
+  where
+    some_so : (a b : Bool) → (a || b) ≡ true → (a ≡ true) ⊎ (b ≡ true)
+    some_so true b e = inl refl
+    some_so false b e = inr e
 
 pub laid_more : (names : List Name) (from old : Names) (name : Name) → laid (names ++ name ∷ []) from old ≡ put (laid names from old) name (from name)
 laid_more names from old name = λ i n. laid_at names from old name n i

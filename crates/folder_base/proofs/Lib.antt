@@ -15,6 +15,8 @@ pub mod Owned
 pub mod Parted
 pub mod Placed
 pub mod Pointwise
+pub mod Rejoined
+pub mod Rejoining
 pub mod Shared
 pub mod Splitting
 pub mod Stepping

@@ -14,6 +14,7 @@ pub mod Names
 pub mod Parts
 pub mod Places
 pub mod Plan
+pub mod Rejoin
 pub mod Split
 pub mod Stored
 pub mod Steps

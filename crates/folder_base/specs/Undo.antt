@@ -1,7 +1,8 @@
 -- What undoes the unsettled name changes that some steps have made.
-use Rattle.std.specs.Prelude.{◌≡◌, ℕ, List, [], ◌∷◌, length, nat_lt, reverse, Option, Some, None, option_map, ⊤, if◌then◌else◌, String, Result, OnOk}
+use Rattle.std.specs.Prelude.{◌≡◌, ℕ, List, [], ◌∷◌, length, nat_lt, reverse, Option, Some, None, option_map, ⊤, Bool, true, not, is_some, if◌then◌else◌, String, Result, OnOk}
 use Rattle.folder_base.specs.Disk.{Name, Names, Spot, lost, Spots, Older, Disk, put, mark}
 use Rattle.folder_base.specs.Files.{names_of}
+use Rattle.folder_base.specs.Parts.{joined}
 use Rattle.folder_base.specs.Stored.{file_of}
 use Rattle.folder_base.specs.Story.{Story}
 use Rattle.folder_base.specs.declared.replay.Replay.{Replay}
@@ -45,3 +46,22 @@ pub record IsReplayed (disk : Disk) (replay : Replay) : Type 0 where
 -- So it is after the step, whatever disk it was made on.
 abbrev pub Replays : {E : Type 0} → (Disk → Disk) → Replay → Replay → Result (Unit {0}) E → Type 0
 Replays step old new result = OnOk result ((disk : Disk) → IsReplayed disk old → IsReplayed (step disk) new)
+
+-- A fact of each name that the change touched
+abbrev pub IsOwn : (Name → Type 0) → Undo → Type 0
+IsOwn P (Freed name file) = P name
+IsOwn P (Moved from to file) = P from × P to
+
+abbrev pub AreOwn : (Name → Type 0) → List Undo → Type 0
+AreOwn P [] = ⊤
+AreOwn P (undo ∷ undos) = IsOwn P undo × AreOwn P undos
+
+-- It is so of each name that stands or was touched.
+pub record HoldsOnly (P : Name → Type 0) (replay : Replay) : Type 0 where
+  pub files : (name : Name) → is_some (names_of replay.files name) ≡ true → P name
+  pub undos : AreOwn P replay.undos.items
+
+-- The part and the rest are one, whatever disks they were made on.
+abbrev pub Joins : Replay → Replay → Replay → Type 0
+Joins part old new = (mine : Name → Bool) (disk rest : Disk) → IsReplayed disk part → IsReplayed rest old
+    → HoldsOnly (λ name. mine name ≡ true) part → HoldsOnly (λ name. not (mine name) ≡ true) old → IsReplayed (joined mine disk rest) new

@@ -16,6 +16,8 @@ use crate::log::Log;
 use crate::merge::merge;
 use crate::place::Place;
 use crate::plan::Plan;
+use crate::replay::Replay;
+use crate::rounds::{make_round, place_steps};
 use crate::side::Side;
 use crate::step::Step;
 use std::alloc::Global;
@@ -47,6 +49,7 @@ impl Content {
     ghost use Rattle.folder_base.specs.Merge.{IsMerged};
     ghost use Rattle.folder_base.specs.Steps.{is_there, is_free, is_any};
     ghost use Rattle.folder_base.specs.Stop.{stopped};
+    ghost use Rattle.folder_base.specs.Undo.{IsReplayed};
 
     /// A folder with these files, their bytes lasting.
     pub(crate) fn new(alloc: Global, files: Vec<File>, plan: Plan) -> Result<Content, OutOfMemory>
@@ -168,16 +171,29 @@ impl Content {
         let _ = self.places.push(Place { steps, files });
     }
 
+    // Makes all steps again.
+    fn replay(&self, alloc: Global) -> Result<Replay, OutOfMemory>
+        ensures { IfOk result (λ replay. IsReplayed (content_tale self.now).story.now replay) }
+    {
+        match self.line.side {
+            Side::Rest => {
+                let log = &self.line.log;
+                let mut replay = log.replay(alloc)?;
+                let parts = place_steps(alloc, &self.places)?;
+                make_round(alloc, &mut replay, &log.stems, &self.line.steps, &parts)?;
+                Ok(replay)
+            }
+            _ => self.line.replay(alloc),
+        }
+    }
+
     /// What a stop leaves of the files, where the first `kept` unsettled name changes hold.
     pub(crate) fn stop(&self, alloc: Global, kept: u64, fill: u8) -> Result<Vec<File>, OutOfMemory>
         ensures { IfOk result
             (λ files. stood (λ _. None) files.items
             ≡ stopped kept fill (content_tale self.now).story.now) }
     {
-        match self.line.side {
-            Side::Rest => Err(OutOfMemory),
-            _ => self.line.replay(alloc)?.stop(alloc, kept, fill),
-        }
+        self.replay(alloc)?.stop(alloc, kept, fill)
     }
 
     /// Makes an empty file. Answers whether the name was free.

@@ -12,6 +12,7 @@ use crate::index::Index;
 use crate::log::Log;
 use crate::part_lines::{copy_texts, leave_names, part_lines};
 use crate::replay::{Replay, make_all};
+use crate::rounds::part_of;
 use crate::side::Side;
 use crate::split::split_files;
 use crate::step::Step;
@@ -106,17 +107,22 @@ impl Line {
         settle_step(&mut self.steps, &mut self.files)
     }
 
-    /// Makes its steps again, where it has all of a folder's names.
+    /// Makes its steps again, where they are those of a whole folder or of a part.
     pub(crate) fn replay(&self, alloc: Global) -> Result<Replay, OutOfMemory>
         ensures { IfOk result (λ replay. IsReplayed (line_story self.now).now replay) }
     {
-        match self.side {
+        match &self.side {
             Side::All => {
                 let mut replay = self.log.replay(alloc)?;
                 make_all(alloc, &mut replay, &self.steps)?;
                 Ok(replay)
             }
-            _ => Err(OutOfMemory),
+            Side::Part { stem } => {
+                let mut replay = part_of(alloc, &self.log.replay(alloc)?, stem)?;
+                make_all(alloc, &mut replay, &self.steps)?;
+                Ok(replay)
+            }
+            Side::Rest => Err(OutOfMemory),
         }
     }
 

@@ -58,14 +58,14 @@ impl Log {
         });
     }
 
-    /// Makes its steps again, where no part was ever handed out.
+    /// Makes its steps again.
     pub(crate) fn replay(&self, alloc: Global) -> Result<Replay, OutOfMemory>
         ensures { IfOk result (λ replay. IsReplayed (log_story self.now).now replay) }
     {
-        if !self.rounds.is_empty() {
-            return Err(OutOfMemory);
-        }
         let mut replay = Replay::new(alloc, &self.birth)?;
+        for round in &self.rounds {
+            round.make(alloc, &mut replay)?;
+        }
         make_all(alloc, &mut replay, &self.steps)?;
         Ok(replay)
     }

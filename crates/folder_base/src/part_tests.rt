@@ -8,7 +8,7 @@ use std::process::Abort;
 use std::test::Fail;
 use text_base::{Failed, FolderFault, Text};
 
-fn two_stems(alloc: Global, first: &str, second: &str) -> Result<Vec<Text>, Fail>
+pub(crate) fn two_stems(alloc: Global, first: &str, second: &str) -> Result<Vec<Text>, Fail>
     ensures { IfOk result (λ stems. stems.items ≡ first.now ∷ second.now ∷ []) }
 {
     let mut stems = Vec::new(alloc);
@@ -17,7 +17,7 @@ fn two_stems(alloc: Global, first: &str, second: &str) -> Result<Vec<Text>, Fail
     Ok(stems)
 }
 
-fn two_parts(parts: Vec<FolderMem>) -> Result<(FolderMem, FolderMem), Fail>
+pub(crate) fn two_parts(parts: Vec<FolderMem>) -> Result<(FolderMem, FolderMem), Fail>
     ensures { IfOk result (λ pair. parts.items ≡ pair.0 ∷ pair.1 ∷ []) }
 {
     let mut parts = parts.into_iter();

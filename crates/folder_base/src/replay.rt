@@ -1,18 +1,22 @@
 //! Steps that are made again, so that it is known what a stop leaves of them.
-ghost use Rattle.std.specs.Prelude.{◌≡◌, true, None, OnOk, IfOk, is_some, reverse};
-ghost use Rattle.folder_base.specs.Disk.{put};
+ghost use Rattle.std.specs.Prelude.{◌≡◌, true, List, None, OnOk, IfOk, IsTrue, is_some, reverse};
+ghost use Rattle.folder_base.specs.Disk.{Name, put};
 ghost use Rattle.folder_base.specs.Files.{names_of};
+ghost use Rattle.folder_base.specs.Index.{IsIndex, FindsPart};
 ghost use Rattle.folder_base.specs.Log.{lasting, stood, told};
 ghost use Rattle.folder_base.specs.Stop.{filled_names};
 ghost use Rattle.folder_base.specs.Story.{Story};
-ghost use Rattle.folder_base.specs.Undo.{IsReplayed, Replays, first_done};
+ghost use Rattle.folder_base.specs.Undo.{IsReplayed, Replays, Joins, HoldsOnly, AreOwn, first_done};
 
 use crate::file::File;
-use crate::files::{Files, cut_file, extend_file, put_file, store_all, sync_file};
+use crate::files::{Files, copy_all, cut_file, extend_file, put_file, store_all, sync_file};
+use crate::index::Index;
+use crate::owning::{are_names_of, are_undos_of};
 use crate::step::Step;
 use crate::stored::Stored;
 use crate::undo::Undo;
 use std::alloc::Global;
+use std::collections::BTreeMap;
 use text_base::{OutOfMemory, Text};
 
 /// The files that some steps have made, and what undoes the unsettled name changes among the steps.
@@ -24,7 +28,7 @@ pub(crate) struct Replay {
 }
 
 impl Replay {
-    ghost use Rattle.std.specs.Prelude.{◌≢◌, [], ◌∷◌, option_map};
+    ghost use Rattle.std.specs.Prelude.{◌≢◌, Bool, [], ◌∷◌, option_map};
     ghost use Rattle.folder_base.specs.Disk.{Disk, Spots, named, freed, renamed_apart};
     ghost use Rattle.folder_base.specs.Log.{does};
     ghost use Rattle.folder_base.specs.Stop.{stopped};
@@ -37,6 +41,20 @@ impl Replay {
     {
         Ok(Replay {
             files: store_all(alloc, birth)?,
+            undos: Vec::new(alloc),
+        })
+    }
+
+    /// Where these files stand and nothing is pending.
+    pub(crate) fn of(alloc: Global, files: &Files) -> Result<Replay, OutOfMemory>
+        ensures { IfOk result
+            (λ replay. (disk : Disk) → names_of files.now ≡ disk.live → disk.back ≡ []
+            → IsReplayed disk replay) }
+    {
+        let mut copies = BTreeMap::new(alloc);
+        copy_all(alloc, files, &mut copies)?;
+        Ok(Replay {
+            files: copies,
             undos: Vec::new(alloc),
         })
     }
@@ -55,6 +73,29 @@ impl Replay {
     {
         undo_last(alloc, kept, &mut self.undos, &mut self.files)?;
         filled_files(alloc, &self.files, fill)
+    }
+
+    /// Takes over what a part has done, none of whose names stands here or was changed.
+    pub(crate) fn join(&mut self, alloc: Global, part: Replay) -> Result<(), OutOfMemory>
+        ensures joined { OnOk result (Joins part self.old self.new) }
+        ensures held { OnOk result
+            ((mine : Name → Bool) → HoldsOnly (λ name. mine name ≡ true) part
+            → HoldsOnly (λ name. mine name ≡ true) self.old
+            → HoldsOnly (λ name. mine name ≡ true) self.new) }
+    {
+        let Replay { files, mut undos } = part;
+        copy_all(alloc, &files, &mut self.files)?;
+        self.undos.append(&mut undos)?;
+        Ok(())
+    }
+
+    /// Whether the part in this place answers for all its names, or no part where that is None.
+    pub(crate) fn is_of(&self, index: &Index, place: Option<usize>) -> bool
+        ensures { IsTrue result
+            → (stems : List Name) → IsIndex stems index.now
+            → HoldsOnly (λ name. FindsPart stems name place) self.now }
+    {
+        are_names_of(index, place, &self.files) && are_undos_of(index, place, &self.undos)
     }
 
     // Puts a file, or none, under a name.

@@ -3,6 +3,7 @@ ghost use Rattle.folder_base.specs.Memory.{world_of};
 ghost use Rattle.folder_base.specs.Story.{IsWhole};
 
 use super::*;
+use crate::part_tests::{two_parts, two_stems};
 use std::alloc::Global;
 use std::test::Fail;
 use text_base::FolderFault;
@@ -72,6 +73,40 @@ fn a_stop_keeps_the_first_name_changes_and_the_synced_bytes(rt: HostRuntime) -> 
             wanted,
             "stop {stop}, kept {kept}"
         );
+    }
+    Ok(())
+}
+
+// Two parts and the rest change names while the parts are out.
+fn changed_in_parts(alloc: Global) -> Result<FolderMem, Fail>
+    ensures { IfOk result (λ folder. IsWhole (world_of folder)) }
+{
+    let mut folder = FolderMem::new(alloc, Vec::new(alloc), Vec::new(alloc), None)?;
+    let stems = two_stems(alloc, "u", "v")?;
+    let (mut u, mut v) = two_parts(folder.fan(alloc, &stems)?)?;
+    v.create("v.new")?;
+    v.rename("v.new", "v")?;
+    u.create("u")?;
+    folder.create("w")?;
+    folder.gather(vec![in alloc; u, v]?);
+    Ok(folder)
+}
+
+#[test]
+fn a_stop_takes_the_changes_of_parts_behind_those_of_the_folder(
+    rt: HostRuntime,
+) -> Result<(), Fail> {
+    let alloc = rt.alloc();
+    let folder = changed_in_parts(alloc)?;
+    for (kept, wanted) in [
+        (0, ""),
+        (1, "w= "),
+        (2, "u= w= "),
+        (3, "u= v.new= w= "),
+        (4, "u= v= w= "),
+    ] {
+        let mut left = folder.after_stop(alloc, kept, b'.')?;
+        assert_eq!(rt; listed(alloc, &mut left)?.as_str(), wanted, "kept {kept}");
     }
     Ok(())
 }
