@@ -12,6 +12,7 @@ mod endings;
 mod fetch;
 mod fetched;
 mod final_head;
+mod head_lines;
 mod header;
 mod laws;
 mod mem_asked;

@@ -8,12 +8,14 @@ ghost use Rattle.link_http.specs.Heads.{GivesHeads};
 
 use crate::dialer::Dialer;
 use crate::final_head::FinalHead;
+use crate::head_lines::HeadLines;
 use crate::window::Window;
-use http_reply::{HeadNext, PieceFault, next_head};
+use http_reply::{HeadNext, PieceFault};
 use httparse::spans::HeaderSpan;
 use text_base::Failed;
 
-/// Reads the heads of a reply, for a try from `from` on. They stay at hand.
+/// Reads the heads of a reply, for a try from `from` on. They stay at hand. A head is parsed once its
+/// empty line has come, and not at each `recv`.
 pub fn read_heads<D: Dialer>(
     dialer: &mut D,
     window: &mut Window,
@@ -38,9 +40,10 @@ pub fn read_heads<D: Dialer>(
         (left (D.wire dialer.new)) }
 {
     let mut at = 0;
+    let mut lines = HeadLines::new(at);
     let mut ended = false;
     'heads: loop {
-        match next_head(window.bytes(), at, ended, headers) {
+        match lines.next_head(window.bytes(), at, ended, headers) {
             HeadNext::More => match window.fill(dialer) {
                 Ok(more) => ended = !more,
                 Err(Failed) => return Err(PieceFault::Recv),

@@ -111,17 +111,13 @@ fn the_request_is_sent(rt: HostRuntime) -> Result<(), Fail> {
 }
 
 #[test]
-fn replies_of_a_small_resource(rt: HostRuntime) -> Result<(), Fail> {
+fn a_whole_and_a_cut_reply(rt: HostRuntime) -> Result<(), Fail> {
     let rt = &rt;
     let total = Ok(Fetched { total: 6 });
-    gives(
-        rt,
-        b"HTTP/1.1 200 OK\r\nContent-Length: 6\r\n\r\nabcdef",
-        0,
-        None,
-        total,
-        b"abcdef",
-    )?;
+    let whole = b"HTTP/1.1 200 OK\r\nContent-Length: 6\r\n\r\nabcdef";
+    gives(rt, whole, 0, None, total, b"abcdef")?;
+    let changed = Err(PieceFault::SizeChanged { before: 7, now: 6 });
+    gives(rt, whole, 0, Some(7), changed, b"")?;
     let cut = Err(PieceFault::CutShort {
         got: 3,
         told: Some(6),
@@ -134,6 +130,13 @@ fn replies_of_a_small_resource(rt: HostRuntime) -> Result<(), Fail> {
         cut,
         b"abc",
     )?;
+    Ok(())
+}
+
+#[test]
+fn replies_from_a_place_on(rt: HostRuntime) -> Result<(), Fail> {
+    let rt = &rt;
+    let total = Ok(Fetched { total: 6 });
     gives(
         rt,
         b"HTTP/1.1 206 Partial Content\r\nContent-Range: bytes 3-5/6\r\n\r\ndef",
@@ -142,23 +145,8 @@ fn replies_of_a_small_resource(rt: HostRuntime) -> Result<(), Fail> {
         total,
         b"def",
     )?;
-    gives(
-        rt,
-        b"HTTP/1.1 200 OK\r\nContent-Length: 6\r\n\r\nabcdef",
-        3,
-        None,
-        total,
-        b"def",
-    )?;
-    let status = Err(PieceFault::Status { code: 503 });
-    gives(
-        rt,
-        b"HTTP/1.1 503 Service Unavailable\r\nContent-Length: 0\r\n\r\n",
-        0,
-        None,
-        status,
-        b"",
-    )?;
+    let whole = b"HTTP/1.1 200 OK\r\nContent-Length: 6\r\n\r\nabcdef";
+    gives(rt, whole, 3, None, total, b"def")?;
     let elsewhere = Err(PieceFault::BadRange {
         asked: 3,
         told: Some(2),
@@ -169,15 +157,6 @@ fn replies_of_a_small_resource(rt: HostRuntime) -> Result<(), Fail> {
         3,
         None,
         elsewhere,
-        b"",
-    )?;
-    let changed = Err(PieceFault::SizeChanged { before: 7, now: 6 });
-    gives(
-        rt,
-        b"HTTP/1.1 200 OK\r\nContent-Length: 6\r\n\r\nabcdef",
-        0,
-        Some(7),
-        changed,
         b"",
     )?;
     Ok(())
@@ -213,31 +192,33 @@ fn all_is_there_already(rt: HostRuntime) -> Result<(), Fail> {
 #[test]
 fn bodies_in_chunks_and_without(rt: HostRuntime) -> Result<(), Fail> {
     let rt = &rt;
-    let total = Ok(Fetched { total: 6 });
     gives(
         rt,
         b"HTTP/1.1 200 OK\r\nTransfer-Encoding: chunked\r\n\r\n3\r\nabc\r\n3\r\ndef\r\n0\r\n\r\n",
         0,
         None,
-        total,
+        Ok(Fetched { total: 6 }),
         b"abcdef",
     )?;
+    let empty = b"HTTP/1.1 200 OK\r\nContent-Length: 0\r\n\r\n";
+    gives(rt, empty, 0, None, Ok(Fetched { total: 0 }), b"")?;
+    Ok(())
+}
+
+#[test]
+fn refused_replies(rt: HostRuntime) -> Result<(), Fail> {
+    let rt = &rt;
+    let status = Err(PieceFault::Status { code: 503 });
     gives(
         rt,
-        b"HTTP/1.1 200 OK\r\nContent-Length: 0\r\n\r\n",
+        b"HTTP/1.1 503 Service Unavailable\r\nContent-Length: 0\r\n\r\n",
         0,
         None,
-        Ok(Fetched { total: 0 }),
+        status,
         b"",
     )?;
-    gives(
-        rt,
-        b"hello",
-        0,
-        None,
-        Err(PieceFault::BadHead { at: 0 }),
-        b"",
-    )?;
+    let bad = Err(PieceFault::BadHead { at: 0 });
+    gives(rt, b"hello", 0, None, bad, b"")?;
     gives(
         rt,
         b"HTTP/1.1 200 OK\r\nContent-Encoding: gzip\r\nContent-Length: 3\r\n\r\nabc",
@@ -246,95 +227,68 @@ fn bodies_in_chunks_and_without(rt: HostRuntime) -> Result<(), Fail> {
         Err(PieceFault::Encoded),
         b"",
     )?;
-    gives(
-        rt,
-        b"HTTP/1.1 200 OK\r\n\r\nabc",
-        0,
-        None,
-        Err(PieceFault::NoLength),
-        b"",
-    )?;
+    let lengthless = b"HTTP/1.1 200 OK\r\n\r\nabc";
+    gives(rt, lengthless, 0, None, Err(PieceFault::NoLength), b"")?;
     Ok(())
 }
 
+/// A reply gives its body `abc`, or is refused.
+fn three(
+    rt: &(impl Abort + AllocGlobal),
+    reply: &[u8],
+    answer: Result<Fetched, PieceFault>,
+) -> Result<(), Fail> {
+    let bytes = if answer.is_ok() {
+        b"abc".as_slice()
+    } else {
+        &[]
+    };
+    gives(rt, reply, 0, None, answer, bytes)
+}
+
 #[test]
-fn odd_replies(rt: HostRuntime) -> Result<(), Fail> {
+fn odd_heads(rt: HostRuntime) -> Result<(), Fail> {
     let rt = &rt;
-    let three = Ok(Fetched { total: 3 });
+    let total = Ok(Fetched { total: 3 });
     let short = Err(PieceFault::CutShort { got: 0, told: None });
-    gives(
-        rt,
-        b"HTTP/1.1 200 OK\r\nContent-Length: 3\r\nX: a\r\n b\r\n\r\nabc",
-        0,
-        None,
-        short,
-        b"",
-    )?;
-    gives(
-        rt,
-        b"HTTP/1.1 200 OK\r\nContent-Length: 3\rX: a\r\n\r\nabc",
-        0,
-        None,
-        short,
-        b"",
-    )?;
-    gives(
-        rt,
-        b"HTTP/1.1 200\r\nContent-Length: 3\r\n\r\nabc",
-        0,
-        None,
-        three,
-        b"abc",
-    )?;
-    gives(
-        rt,
-        b"HTTP/1.1 200 OK\ncontent-length:3\n\nabc",
-        0,
-        None,
-        three,
-        b"abc",
-    )?;
-    gives(
-        rt,
-        b"HTTP/1.1 200 OK\r\nContent-Length: 3\r\nContent-Length: 03\r\n\r\nabc",
-        0,
-        None,
-        three,
-        b"abc",
-    )?;
-    gives(
-        rt,
-        b"HTTP/1.1 200 OK\r\nContent-Length: 3\r\nContent-Length: 4\r\n\r\nabc",
-        0,
-        None,
-        Err(PieceFault::NoLength),
-        b"",
-    )?;
-    gives(
-        rt,
-        b"HTTP/1.1 200 OK\r\nTransfer-Encoding: CHUNKED\r\n\r\n3;x=y\r\nabc\r\n0;z\r\n",
-        0,
-        None,
-        three,
-        b"abc",
-    )?;
-    gives(
-        rt,
-        b"HTTP/1.1 200 OK\r\nTransfer-Encoding: chunked\r\n\r\nzz\r\n",
-        0,
-        None,
-        Err(PieceFault::BadHead { at: 47 }),
-        b"",
-    )?;
-    gives(
+    let folded = b"HTTP/1.1 200 OK\r\nContent-Length: 3\r\nX: a\r\n b\r\n\r\nabc";
+    three(rt, folded, short)?;
+    let bare = b"HTTP/1.1 200 OK\r\nContent-Length: 3\rX: a\r\n\r\nabc";
+    three(rt, bare, short)?;
+    let no_reason = b"HTTP/1.1 200\r\nContent-Length: 3\r\n\r\nabc";
+    three(rt, no_reason, total)?;
+    let line_feeds = b"HTTP/1.1 200 OK\ncontent-length:3\n\nabc";
+    three(rt, line_feeds, total)?;
+    let empty_lines = b"\r\n\n\r\nHTTP/1.1 200 OK\r\nContent-Length: 3\r\n\r\nabc";
+    three(rt, empty_lines, total)?;
+    three(
         rt,
         b"HTTP/1.1 100 Continue\r\n\r\nHTTP/1.1 103 Early Hints\r\nLink: x\r\n\r\nHTTP/1.1 200 OK\r\nContent-Length: 3\r\n\r\nabc",
-        0,
-        None,
-        three,
-        b"abc",
+        total,
+    )
+}
+
+#[test]
+fn odd_lengths_and_chunks(rt: HostRuntime) -> Result<(), Fail> {
+    let rt = &rt;
+    let total = Ok(Fetched { total: 3 });
+    three(
+        rt,
+        b"HTTP/1.1 200 OK\r\nContent-Length: 3\r\nContent-Length: 03\r\n\r\nabc",
+        total,
     )?;
-    Ok(())
+    three(
+        rt,
+        b"HTTP/1.1 200 OK\r\nContent-Length: 3\r\nContent-Length: 4\r\n\r\nabc",
+        Err(PieceFault::NoLength),
+    )?;
+    three(
+        rt,
+        b"HTTP/1.1 200 OK\r\nTransfer-Encoding: CHUNKED\r\n\r\n3;x=y\r\nabc\r\n0;z\r\n",
+        total,
+    )?;
+    let unreadable = b"HTTP/1.1 200 OK\r\nTransfer-Encoding: chunked\r\n\r\nzz\r\n";
+    three(rt, unreadable, Err(PieceFault::BadHead { at: 47 }))
 }
 
 #[test]

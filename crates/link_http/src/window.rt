@@ -83,7 +83,9 @@ fn to_front(store: &mut Vec<u8>, start: usize, end: usize)
     ensures len { length store.new.items ≡ length store.old.items }
     ensures moved { take (end - start) store.new.items ≡ slice_range store.old.items start end }
 {
-    store.copy_within(start..end, 0);
+    if start > 0 {
+        store.copy_within(start..end, 0);
+    }
 }
 
 /// Reads into the store from `end` on.
