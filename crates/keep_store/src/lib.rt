@@ -20,4 +20,6 @@ pub use lane_refused::LaneRefused;
 pub use publishing::publish;
 
 #[cfg(test)]
+mod stop_tests;
+#[cfg(test)]
 mod tests;

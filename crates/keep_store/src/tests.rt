@@ -1,4 +1,6 @@
 ghost use Rattle.std.specs.Prelude.{◌≡◌, ◌+◌, ◌*◌, ◌<◌, ◌≤◌, ◌^◌, false, length, IfOk, OnOk};
+ghost use Rattle.folder_base.specs.Memory.{world_of};
+ghost use Rattle.folder_base.specs.Story.{IsWhole};
 ghost use Rattle.keep_store.specs.Seen.{lane_seen};
 
 use super::*;
@@ -8,11 +10,14 @@ use std::test::Fail;
 
 const STEM: &str = "v.part-Frag3";
 
-fn empty(alloc: Global, fails: Vec<u64>, stop: Option<u64>) -> Result<FolderMem, Fail> {
+fn empty(alloc: Global, fails: Vec<u64>, stop: Option<u64>) -> Result<FolderMem, Fail>
+    ensures { IfOk result (λ folder. IsWhole (world_of folder)) }
+{
     Ok(FolderMem::new(alloc, Vec::new(alloc), fails, stop)?)
 }
 
 fn open_part(alloc: Global, folder: FolderMem) -> Result<Lane<FolderMem>, Fail>
+    requires { IsWhole (world_of folder) }
     ensures part { IfOk result (λ lane. (lane_seen lane).complete ≡ false) }
     ensures small { IfOk result (λ lane. (lane_seen lane).size < 1000) }
 {
@@ -71,7 +76,7 @@ fn a_lane_promises_at_marks(rt: HostRuntime) -> Result<(), Fail> {
     assert_eq!(rt; lane.promised(), 2_500_000);
     assert_eq!(rt; lane.finish(), Ok(()));
     assert_eq!(rt; lane.complete(), true);
-    let mut folder = lane.into_folder();
+    let mut folder = lane.into_folder().after_stop(alloc, 99, 0)?;
     assert_eq!(rt; folder.size(STEM), Ok(Some(2_500_000)));
     assert_eq!(rt; folder.names(alloc, "")?.len(), 1);
     Ok(())
@@ -111,10 +116,10 @@ fn the_greatest_promise_that_stands_is_taken(rt: HostRuntime) -> Result<(), Fail
     }
     let lane = open_part(alloc, folder)?;
     assert_eq!(rt; lane.promised(), 4);
-    let mut folder = lane.into_folder();
+    let mut folder = lane.into_folder().after_stop(alloc, 99, 0)?;
+    assert_eq!(rt; folder.size("v.part-Frag3.@4"), Ok(Some(4)));
     let names = "v.part-Frag3.@007 v.part-Frag3.@4 v.part-Frag30.@5 ";
     assert_eq!(rt; names_of(alloc, &mut folder)?.as_str(), names);
-    assert_eq!(rt; folder.size("v.part-Frag3.@4"), Ok(Some(4)));
     Ok(())
 }
 
