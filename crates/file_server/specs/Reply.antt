@@ -1,5 +1,5 @@
 -- What a request for a file gets (RFC 9110, sections 14.1.2, 14.4, 15.3.7 and 15.5.17).
-use Rattle.std.specs.Prelude.{ℕ, ◌+◌, ◌-◌, ◌≤◌, ◌<◌, ⊤, Bool, true, List, [], ◌++◌, min, nat_le, Option, Some, None, unwrap_or, codes, decimal, if◌then◌else◌}
+use Rattle.std.specs.Prelude.{ℕ, ◌+◌, ◌-◌, ◌≤◌, ◌<◌, ⊤, Bool, List, [], ◌++◌, min, nat_le, Option, Some, None, unwrap_or, codes, decimal, if◌then◌else◌}
 use Rattle.httparse.specs.Ascii.{crlf_bytes}
 use Rattle.file_server.specs.declared.byte_range.ByteRange.{ByteRange}
 use Rattle.file_server.specs.declared.reply.Reply.{Reply}

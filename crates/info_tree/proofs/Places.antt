@@ -40,14 +40,6 @@ any_found p (x ∷ xs) = step (p x) (find_at p xs) (any_found p xs)
 pub list_any-position : {X : Type 0} (p : X → Bool) (xs : List X) → list_any p xs ≡ is_some (position p xs)
 list_any-position p xs = any_found p xs ∙ ap is_some (sym (position_is p xs))
 
--- places among what a function gives
-pub position-map : {A B : Type 0} (p : B → Bool) (f : A → B) (xs : List A) → position (λ x. p (f x)) xs ≡ position p (map f xs)
-position-map p f xs = position_is (λ x. p (f x)) xs ∙ found xs ∙ sym (position_is p (map f xs))
-  where
-    found : (ys : List _) → find_at (λ x. p (f x)) ys ≡ find_at p (map f ys)
-    found [] = refl
-    found (y ∷ ys) = ap (λ o. cond (p (f y)) (Some 0) (next_place o)) (found ys)
-
 -- the first of two places
 abbrev pub first_of_two : Option ℕ → Option ℕ → Option ℕ
 first_of_two None o = o

@@ -1,4 +1,4 @@
-use Rattle.std.proofs.Common.{sym, ◌∙◌, below_more, arith}
+use Rattle.std.proofs.Common.{sym, below_more, arith}
 use Rattle.std.proofs.lemmas.List.{take_all, drop_all}
 use Rattle.std.proofs.lemmas.Bool.{ne_eqb}
 use Rattle.file_server.proofs.CutLemmas.{first_at, first_none}

@@ -1,4 +1,4 @@
-use Rattle.std.proofs.Common.{◌≡◌, lit<, rules}
+use Rattle.std.proofs.Common.{lit<, rules}
 use Rattle.std.specs.Prelude.{bytes_eq, codes}
 use Rattle.std.proofs.lemmas.Iterator.Search.{any_from_yields_List}
 use Rattle.std.proofs.lemmas.Iterator.Splits.{YieldsList-from_str_split}

@@ -1,4 +1,4 @@
-use Rattle.std.proofs.Common.{◌≡◌, List, ℕ, [], ◌∷◌, ◌++◌, map, drop, ap, ◌∙◌, sym, arith, length-drop}
+use Rattle.std.proofs.Common.{List, ℕ, [], ◌∷◌, ◌++◌, map, drop, ap, ◌∙◌, sym, arith, length-drop}
 use Rattle.std.specs.Prelude.{string_bytes}
 use Rattle.std.proofs.lemmas.List.{take_all, map-append}
 use Rattle.ytdl_stub.specs.Job.{is_input}
