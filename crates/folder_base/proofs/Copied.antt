@@ -103,3 +103,10 @@ module _ (from : BTreeMap (String Global) Stored) (old : Names) where
       by : (o : Option File) → (if is_some o then option_map (λ f. lasting_file (filled fill f)) o else None) ≡ option_map (λ f. lasting_file (filled fill f)) o
       by None = refl
       by (Some f) = refl
+
+over_nothing_at : (o : Option File) → or_else o None ≡ o
+over_nothing_at None = refl
+over_nothing_at (Some file) = refl
+
+pub over_nothing : (names : Names) → over names (λ _. None) ≡ names
+over_nothing names = λ i n. over_nothing_at (names n) i

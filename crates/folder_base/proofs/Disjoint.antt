@@ -16,6 +16,10 @@ pub some_so : (a b : Bool) → (a || b) ≡ true → (a ≡ true) ⊎ (b ≡ tru
 some_so true b e = inl refl
 some_so false b e = inr e
 
+pub neither_so : (a b : Bool) → (a || b) ≡ false → (a ≡ false) × (b ≡ false)
+neither_so true b e = absurd (cc)
+neither_so false b e = (refl, e)
+
 pub so_left : (a b : Bool) → a ≡ true → (a || b) ≡ true
 so_left a b e = ap (λ (v : Bool). v || b) e
 

@@ -30,6 +30,17 @@ put_elim {V} Q m name v other here there = elim (same_or_not name other) [
   | inr differs ↦ subst (λ (b : Bool). Q (if b then v else m other)) (sym differs) (there differs)
 ]
 
+-- what a name has, put under it
+pub put_as_was : {V : Type 0} (m : Name → Option V) (name n : Name) → put m name (m name) n ≡ m n
+put_as_was m name n = put_elim (λ o. o ≡ m n) m name (m name) n (λ same. ap m same) (λ differs. refl)
+
+pub if_through : {V W : Type 0} (t : V → W) (b : Bool) (v w : V) → t (if b then v else w) ≡ (if b then t v else t w)
+if_through t true v w = refl
+if_through t false v w = refl
+
+pub put_through : {V W : Type 0} (t : Option V → Option W) (m : Name → Option V) (name : Name) (v : Option V) → (λ n. t (put m name v n)) ≡ put (λ n. t (m n)) name (t v)
+put_through t m name v = λ i n. if_through t (bytes_eq name n) v (m n) i
+
 -- Whatever is left of the first is left of the second.
 abbrev pub Within : Option File → Option File → Type 0
 Within new old = (bytes : Option Bytes) → MayBe new bytes → MayBe old bytes
@@ -290,7 +301,7 @@ module _ (live : Names) (from to : Name) (apart : bytes_eq from to ≡ false) wh
 
 renamed_apart_may : (from to : Name) (disk : Disk) → bytes_eq from to ≡ false → (image : Image) → May (renamed_apart from to disk) image
     → May disk image ⊎ Comes (IsMoved from to (disk.live from)) disk image
-renamed_apart_may from to disk apart = named_may (from ∷ to ∷ []) disk (renamed_names from to disk.live) (taken_over disk.live from to) (made disk.live from to apart)
+renamed_apart_may from to disk apart = named_may (to ∷ from ∷ []) disk (renamed_names from to disk.live) (taken_over disk.live from to) (made disk.live from to apart)
     (IsMoved from to (disk.live from))
     (λ spots n. option_renamed disk.live from to apart (spots n))
     (one_moved disk.live (renamed_names from to disk.live) from to (disk.live from) (after_from disk.live from to apart) (after_to disk.live from to apart) (after_there disk.live from to apart))

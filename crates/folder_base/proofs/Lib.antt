@@ -2,9 +2,12 @@ pub mod Contents
 pub mod Copied
 pub mod Cutting
 pub mod Disjoint
+pub mod Explaining
 pub mod Fanning
 pub mod Gathered
 pub mod Gathering
+pub mod Giving
+pub mod Handed
 pub mod Images
 pub mod Indexed
 pub mod Lent
@@ -17,6 +20,7 @@ pub mod Placed
 pub mod Pointwise
 pub mod Rejoined
 pub mod Rejoining
+pub mod Retelling
 pub mod Shared
 pub mod Splitting
 pub mod Stepping

@@ -1,24 +1,19 @@
 -- Parts that are put behind the others, one after another.
-use Rattle.std.proofs.Common.{◌≡◌, ◌⊎◌, inl, inr, ⊎_elim, ℕ, zero, suc, ◌+◌, ◌≤◌, Bool, true, false, not, ◌||◌, List, [], ◌∷◌, map, length, refl, sym, ◌∙◌, ap, subst, add-one, arith}
-use Rattle.std.specs.Prelude.{Option, Some, None, slice_get, drop, if◌then◌else◌}
+use Rattle.std.proofs.Common.{◌≡◌, ◌⊎◌, inl, inr, ⊎_elim, ℕ, zero, suc, ◌+◌, ◌≤◌, Bool, true, false, not, ◌||◌, List, [], ◌∷◌, map, length, refl, sym, ◌∙◌, ap, subst, arith}
+use Rattle.std.specs.Prelude.{Some, slice_get, drop}
 use Rattle.std.proofs.lemmas.List.{drop_all, drop_more}
 use Rattle.std.proofs.lemmas.Option.{slice_get_within, get_or_from_slice_get}
-use Rattle.folder_base.specs.Disk.{Name, File, Names, Spots, Disk, Older, mark}
-use Rattle.folder_base.specs.Files.{names_of, or_else, over}
-use Rattle.folder_base.specs.Log.{told, newborn, handed, left, parts_told}
-use Rattle.folder_base.specs.Merge.{Files}
-use Rattle.folder_base.specs.Parts.{is_part, is_in_some, inside, outside, together, AreApart}
+use Rattle.folder_base.specs.Disk.{Name, Disk}
+use Rattle.folder_base.specs.Log.{told, newborn}
+use Rattle.folder_base.specs.Parts.{is_part, is_in_some, inside, together, AreApart}
 use Rattle.folder_base.specs.Rejoin.{parts_now, IsPartOn}
-use Rattle.folder_base.specs.Split.{AreSplit, part_names, without_all}
 use Rattle.folder_base.specs.Story.{Story, gathered}
-use Rattle.folder_base.specs.Undo.{Undoes, IsReplayed, HoldsOnly}
+use Rattle.folder_base.specs.Undo.{IsReplayed, HoldsOnly}
 use Rattle.folder_base.specs.declared.replay.Replay.{Replay}
 use Rattle.folder_base.specs.declared.step.Step.{Step}
-use Rattle.folder_base.specs.declared.undo.Undo.{Undo}
 use Rattle.folder_base.proofs.Disjoint.{disjoint}
 use Rattle.folder_base.proofs.Parted.{AreDisjoint}
 use Rattle.folder_base.proofs.Rejoining.{holds_weaker}
-use Rattle.folder_base.proofs.Splitting.{left_over}
 
 -- The first parts are back, and none of the others has a name here.
 pub record IsJoined (birth rest : Disk) (stems : List Name) (lists : List (List Step)) (at : ℕ) (replay : Replay) : Type 0 where
@@ -29,6 +24,21 @@ pub record IsJoined (birth rest : Disk) (stems : List Name) (lists : List (List 
 
 drop_stands : {X : Type 0} (xs : List X) (at : ℕ) (x : X) → slice_get xs at ≡ Some x → drop at xs ≡ x ∷ drop (at + 1) xs
 drop_stands xs at x stands = drop_more xs at x (slice_get_within xs at x stands) ∙ ap (λ y. y ∷ drop (at + 1) xs) (get_or_from_slice_get xs at x x stands)
+
+-- the first of those that are left
+pub first_left : {X : Type 0} (xs : List X) (at : ℕ) (x : X) (later : List X) → drop at xs ≡ x ∷ later → (slice_get xs at ≡ Some x) × (later ≡ drop (at + 1) xs)
+first_left [] zero x later e = absurd (cc)
+first_left [] (suc at) x later e = absurd (cc)
+first_left (y ∷ xs) zero x later e = let first : y ≡ x = cc in let others : xs ≡ later = cc in (ap (λ z. Some z) first, sym others)
+first_left {X} (y ∷ xs) (suc at) x later e =
+    let left = first_left xs at x later e in
+    let more : suc (at + 1) ≡ suc at + 1 = omega arith in
+    (left.0, left.1 ∙ ap (λ (n : ℕ). drop n (y ∷ xs)) more)
+
+pub none_left : {X : Type 0} (xs : List X) (at : ℕ) → drop at xs ≡ [] → length xs ≤ at
+none_left [] at e = omega arith
+none_left (y ∷ xs) zero e = absurd (cc)
+none_left (y ∷ xs) (suc at) e = let few = none_left xs at e in omega (arith, few)
 
 both_not : (a b : Bool) → not (a || b) ≡ true → (not a ≡ true) × (not b ≡ true)
 both_not true b e = absurd (cc)
@@ -89,34 +99,6 @@ pub joined_all : (birth rest : Disk) (stems : List Name) (lists : List (List Ste
 joined_all birth rest stems lists at replay end was =
     let none : parts_now birth (drop at stems) (drop at lists) ≡ [] = no_parts birth (drop at stems) (drop at lists) (⊎_elim (λ h. inl (drop_all at stems h)) (λ h. inr (drop_all at lists h)) end) in
     subst (λ (d : Disk). IsReplayed d replay) (sym (ap (together was.now) none) ∙ was.same) was.replayed
-
-pub nothing_back : (spots : Spots) (back : List Older) → Undoes [] spots back → back ≡ []
-nothing_back spots [] h = refl
-nothing_back spots (older ∷ back) h = absurd h
-
-split_maps : (stems : List Name) (live : Names) (split : List Files) → length split ≡ length stems
-    → ((at : ℕ) (stem : Name) (files : Files) → slice_get stems at ≡ Some stem → slice_get split at ≡ Some files → names_of files ≡ part_names stem live)
-    → map (λ files. names_of files) split ≡ map (λ stem. part_names stem live) stems
-split_maps [] live [] many each = refl
-split_maps [] live (files ∷ split) many each = absurd (omega (arith, many))
-split_maps (stem ∷ stems) live [] many each = absurd (omega (arith, many))
-split_maps (stem ∷ stems) live (files ∷ split) many each =
-    (λ i. each 0 stem files refl refl i ∷ split_maps stems live split (omega (arith, many)) (λ at s f a b. each (suc at) s f a b) i)
-
-pub outside_split : (stems : List Name) (live : Names) (split : List Files) → AreSplit stems live split → without_all (map (λ files. names_of files) split) live ≡ (λ n. if not (is_in_some stems n) then live n else None)
-outside_split stems live split are =
-    ap (λ (l : List Names). without_all l live) (split_maps stems live split are.many are.each) ∙ left_over stems live live (λ n. inl refl) ∙ (λ i n. turn (is_in_some stems n) (live n) i)
-  where
-    turn : (b : Bool) (o : Option File) → (if b then None else o) ≡ (if not b then o else None)
-    turn true o = refl
-    turn false o = refl
-
-over_nothing_at : (o : Option File) → or_else o None ≡ o
-over_nothing_at None = refl
-over_nothing_at (Some file) = refl
-
-pub over_nothing : (names : Names) → over names (λ _. None) ≡ names
-over_nothing names = λ i n. over_nothing_at (names n) i
 
 pub gathered_now : (since : ℕ) (parts : List (Name × Story)) (story : Story) → (gathered since parts story).now ≡ together story.now (map (λ each. (each.0, each.1.now)) parts)
 gathered_now since [] story = refl

@@ -1,19 +1,24 @@
 -- What undoes the changes of a folder and of a part, once the part is back.
-use Rattle.std.proofs.Common.{◌≡◌, ◌⊎◌, ⊎_elim, inl, inr, Bool, true, false, not, List, [], ◌∷◌, ◌++◌, map, refl, sym, ◌∙◌, ap, subst}
-use Rattle.std.specs.Prelude.{is_some, reverse, Option, Some, None, option_map, option_and_then, bytes_eq, if◌then◌else◌}
-use Rattle.std.proofs.lemmas.List.{reverse-append}
+use Rattle.std.proofs.Common.{◌≡◌, ◌⊎◌, ⊎_elim, inl, inr, Bool, true, false, not, ◌||◌, List, [], ◌∷◌, ◌++◌, map, refl, sym, ◌∙◌, ap, subst}
+use Rattle.std.specs.Prelude.{is_some, reverse, Option, Some, None, option_map, option_and_then, if◌then◌else◌}
+use Rattle.std.proofs.lemmas.List.{reverse-append, map-append}
 use Rattle.folder_base.specs.Disk.{Name, File, Names, Spot, still, lost, Spots, Older, Disk, put, mark}
 use Rattle.folder_base.specs.Parts.{own_spot, own_spots, join, oldest, joined}
-use Rattle.folder_base.specs.Undo.{lost_spot, undone, Undoes, IsOwn, AreOwn, HoldsOnly, IsReplayed}
+use Rattle.folder_base.specs.Undo.{lost_spot, still_spot, was_spot, set_spot, set_spots, undone, touched_by, Undoes, AreUndone, ArePlain, IsOwnWas, AreOwnWas, IsOwn, AreOwn, HoldsOnly, IsReplayed}
+use Rattle.folder_base.specs.declared.change.Change.{Change}
 use Rattle.folder_base.specs.Files.{names_of, or_else, over}
 use Rattle.folder_base.specs.declared.replay.Replay.{Replay}
 use Rattle.folder_base.specs.declared.stored.Stored.{Stored}
 use Rattle.folder_base.specs.declared.undo.Undo.{Undo}
-use Rattle.folder_base.specs.declared.undo.Undo.TheVariants.{Freed, Moved}
-use Rattle.folder_base.proofs.Images.{same_or_not}
+use Rattle.folder_base.specs.declared.undo.Undo.TheVariants.{Freed, Moved, Listed}
+use Rattle.folder_base.specs.declared.was.Was.{Was}
+use Rattle.folder_base.specs.declared.was.Was.TheVariants.{Apart, Lost, Still}
+use Rattle.folder_base.proofs.Disjoint.{neither_so}
+use Rattle.folder_base.proofs.Images.{same_or_not, put_as_was}
 
 -- Own names are told by `t`, and the others are as in `c`.
-module _ (mine : Name → Bool) (t : Option Spot → Option Spot) (keeps : (file : Option Stored) → t (lost_spot file) ≡ lost_spot file) (c : Spots) where
+module _ (mine : Name → Bool) (t : Option Spot → Option Spot) (keeps : (file : Option Stored) → t (lost_spot file) ≡ lost_spot file)
+    (keeps_still : (name : Name) → mine name ≡ true → t (still_spot name) ≡ still_spot name) (c : Spots) where
   abbrev told_own : Spots → Spots
   told_own spots = λ n. if mine n then t (spots n) else c n
 
@@ -26,11 +31,23 @@ module _ (mine : Name → Bool) (t : Option Spot → Option Spot) (keeps : (file
         ap (λ (b : Bool). if mine n then t (if b then v else spots n) else c n) differs ∙ sym (ap (λ (b : Bool). if b then w else told_own spots n) differs)
   ]
 
+  set_own : (name : Name) (was : Was) (spots : Spots) → IsOwnWas (λ n. mine n ≡ true) name was → (n : Name)
+      → told_own (put spots name (was_spot was (spots name))) n ≡ put (told_own spots) name (was_spot was (told_own spots name)) n
+  set_own name Apart spots own n = ap (λ (o : Option Spot). if mine n then t o else c n) (put_as_was spots name n) ∙ sym (put_as_was (told_own spots) name n)
+  set_own name (Lost file) spots own n = put_own spots name (lost_spot file) (lost_spot file) (keeps file) own n
+  set_own name (Still now) spots own n = put_own spots name (still_spot now) (still_spot now) (keeps_still now own.1) own.0 n
+
+  set_all_own : (changes : List Change) (spots : Spots) → AreOwnWas (λ n. mine n ≡ true) changes → told_own (set_spots changes spots) ≡ set_spots changes (told_own spots)
+  set_all_own [] spots own = refl
+  set_all_own (change ∷ changes) spots own =
+      set_all_own changes (set_spot change spots) own.1 ∙ ap (set_spots changes) (λ i n. set_own change.name change.was spots own.0 n i)
+
   undone_own : (undo : Undo) (spots : Spots) → IsOwn (λ n. mine n ≡ true) undo → told_own (undone undo spots) ≡ undone undo (told_own spots)
   undone_own (Freed name file) spots own = λ i n. put_own spots name (lost_spot file) (lost_spot file) (keeps file) own n i
   undone_own (Moved from to file) spots own =
       (λ i n. put_own (put spots to (lost_spot file)) from (spots to) (told_own spots to) (sym (ap (λ (b : Bool). if b then t (spots to) else c to) own.1)) own.0 n i)
       ∙ ap (λ (m : Spots). put m from (told_own spots to)) (λ i n. put_own spots to (lost_spot file) (lost_spot file) (keeps file) own.1 n i)
+  undone_own (Listed changes) spots own = set_all_own changes.items spots own
 
 -- Earlier names told anew, where that and undoing commute.
 module _ (mine : Name → Bool) (anew : Spots → Spots) (commutes : (undo : Undo) (spots : Spots) → IsOwn (λ n. mine n ≡ true) undo → anew (undone undo spots) ≡ undone undo (anew spots)) where
@@ -40,6 +57,10 @@ module _ (mine : Name → Bool) (anew : Spots → Spots) (commutes : (undo : Und
   undoes_anew [] spots (older ∷ back) own h = absurd h
   undoes_anew (undo ∷ undos) spots [] own h = absurd h
   undoes_anew (undo ∷ undos) spots (older ∷ back) own h = (ap anew h.0 ∙ commutes undo spots own.0, undoes_anew undos older.names back own.1 h.1)
+
+  touched_anew : (back : List Older) → map (λ (older : Older). older.touched) (map (λ (older : Older). record { touched = older.touched; names = anew older.names }) back) ≡ map (λ (older : Older). older.touched) back
+  touched_anew [] = refl
+  touched_anew (older ∷ back) = ap (λ (l : List (List Name)). older.touched ∷ l) (touched_anew back)
 
   oldest_anew : (spots : Spots) (back : List Older) → oldest (anew spots) (map (λ older. record { touched = older.touched; names = anew older.names }) back) ≡ anew (oldest spots back)
   oldest_anew spots [] = refl
@@ -51,9 +72,12 @@ undoes_both [] others spots (o ∷ back) older h k = absurd h
 undoes_both (undo ∷ undos) others spots [] older h k = absurd h
 undoes_both (undo ∷ undos) others spots (o ∷ back) older h k = (h.0, undoes_both undos others o.names back older h.1 k)
 
-own_lost : (mine : Name → Bool) (live : Names) (file : Option Stored) → option_and_then (own_spot mine live) (lost_spot file) ≡ lost_spot file
+pub own_lost : (mine : Name → Bool) (live : Names) (file : Option Stored) → option_and_then (own_spot mine live) (lost_spot file) ≡ lost_spot file
 own_lost mine live None = refl
 own_lost mine live (Some stored) = refl
+
+pub own_still : (mine : Name → Bool) (live : Names) (name : Name) → mine name ≡ true → option_and_then (own_spot mine live) (still_spot name) ≡ still_spot name
+own_still mine live name own = ap (λ (b : Bool). if b then Some (still name) else option_map lost (live name)) own
 
 twice : {V : Type 0} (b : Bool) (v w : V) (other : V) → (if b then (if b then v else other) else w) ≡ (if b then v else w)
 twice true v w other = refl
@@ -87,16 +111,16 @@ module _ (mine : Name → Bool) (part rest : Disk) where
 
   behind_undone : (undo : Undo) (spots : Spots) → IsOwn (λ n. mine n ≡ true) undo → behind (undone undo spots) ≡ undone undo (behind spots)
   behind_undone undo spots own =
-      let is : (s : Spots) → behind s ≡ told_own mine (option_and_then (own_spot mine part.live)) (own_lost mine part.live) (of_rest (mark rest.live)) s =
+      let is : (s : Spots) → behind s ≡ told_own mine (option_and_then (own_spot mine part.live)) (own_lost mine part.live) (own_still mine part.live) (of_rest (mark rest.live)) s =
       λ s i n. twice (mine n) (option_and_then (own_spot mine part.live) (s n)) (of_rest (mark rest.live) n) None i in
-      is (undone undo spots) ∙ undone_own mine (option_and_then (own_spot mine part.live)) (own_lost mine part.live) (of_rest (mark rest.live)) undo spots own ∙ ap (undone undo) (sym (is spots))
+      is (undone undo spots) ∙ undone_own mine (option_and_then (own_spot mine part.live)) (own_lost mine part.live) (own_still mine part.live) (of_rest (mark rest.live)) undo spots own ∙ ap (undone undo) (sym (is spots))
 
   before_undone : (undo : Undo) (spots : Spots) → IsOwn (λ n. others n ≡ true) undo → before (undone undo spots) ≡ undone undo (before spots)
   before_undone undo spots own =
       let old = of_part (oldest (mark part.live) part.back) in
-      let is : (s : Spots) → before s ≡ told_own others (option_and_then (own_spot others rest.live)) (own_lost others rest.live) old s =
+      let is : (s : Spots) → before s ≡ told_own others (option_and_then (own_spot others rest.live)) (own_lost others rest.live) (own_still others rest.live) old s =
       λ s i n. else_not (mine n) (old n) (option_and_then (own_spot others rest.live) (s n)) None i in
-      is (undone undo spots) ∙ undone_own others (option_and_then (own_spot others rest.live)) (own_lost others rest.live) old undo spots own ∙ ap (undone undo) (sym (is spots))
+      is (undone undo spots) ∙ undone_own others (option_and_then (own_spot others rest.live)) (own_lost others rest.live) (own_still others rest.live) old undo spots own ∙ ap (undone undo) (sym (is spots))
 
   joined_mark_at : (n : Name) → behind (mark part.live) n ≡ mark (joined mine part rest).live n
   joined_mark_at n = by (mine n) refl
@@ -107,10 +131,9 @@ module _ (mine : Name → Bool) (part rest : Disk) where
       by true is = own_mark mine part.live n true is (part.live n)
       by false is = own_mark others rest.live n true (ap not is) (rest.live n)
 
-  -- The part's changes are undone first, and then the rest's.
-  pub joined_undone : (undos olds : List Undo) → AreOwn (λ n. mine n ≡ true) undos → AreOwn (λ n. others n ≡ true) olds → Undoes undos (mark part.live) part.back → Undoes olds (mark rest.live) rest.back
+  joined_names : (undos olds : List Undo) → AreOwn (λ n. mine n ≡ true) undos → AreOwn (λ n. others n ≡ true) olds → Undoes undos (mark part.live) part.back → Undoes olds (mark rest.live) rest.back
       → Undoes (undos ++ olds) (mark (joined mine part rest).live) (joined mine part rest).back
-  joined_undone undos olds own own_olds h k =
+  joined_names undos olds own own_olds h k =
       let marked : behind (mark part.live) ≡ mark (joined mine part rest).live = λ i n. joined_mark_at n i in
       subst (λ (s : Spots). Undoes (undos ++ olds) s (joined mine part rest).back) marked
       (undoes_both undos olds (behind (mark part.live)) (map (λ older. record { touched = older.touched; names = behind older.names }) part.back)
@@ -119,6 +142,17 @@ module _ (mine : Name → Bool) (part rest : Disk) where
       (subst (λ (s : Spots). Undoes olds s (map (λ older. record { touched = older.touched; names = before older.names }) rest.back))
       (sym (oldest_anew mine behind behind_undone (mark part.live) part.back))
       (undoes_anew others before before_undone olds (mark rest.live) rest.back own_olds k)))
+
+  -- The part's changes are undone first, and then the rest's.
+  pub joined_undone : (undos olds : List Undo) → AreOwn (λ n. mine n ≡ true) undos → AreOwn (λ n. others n ≡ true) olds → AreUndone undos (mark part.live) part.back → AreUndone olds (mark rest.live) rest.back
+      → AreUndone (undos ++ olds) (mark (joined mine part rest).live) (joined mine part rest).back
+  joined_undone undos olds own own_olds h k = record {
+    names = joined_names undos olds own own_olds h.names k.names;
+    touched = map-append touched_by undos olds
+        ∙ (λ i. (h.touched ∙ sym (touched_anew mine behind behind_undone part.back)) i ++ (k.touched ∙ sym (touched_anew others before before_undone rest.back)) i)
+        ∙ sym (map-append (λ (older : Older). older.touched) (map (λ older. record { touched = older.touched; names = behind older.names }) part.back)
+        (map (λ older. record { touched = older.touched; names = before older.names }) rest.back));
+  }
 
 pub are_own_push : (P : Name → Type 0) (undos : List Undo) (undo : Undo) → AreOwn P undos → IsOwn P undo → AreOwn P (undos ++ undo ∷ [])
 are_own_push P [] undo own last = (last, tt)
@@ -136,6 +170,20 @@ pub are_own_weaker : (P Q : Name → Type 0) → ((name : Name) → P name → Q
 are_own_weaker P Q so [] own = tt
 are_own_weaker P Q so (Freed name file ∷ undos) own = (so name own.0, are_own_weaker P Q so undos own.1)
 are_own_weaker P Q so (Moved from to file ∷ undos) own = ((so from own.0.0, so to own.0.1), are_own_weaker P Q so undos own.1)
+are_own_weaker P Q so (Listed changes ∷ undos) own = (each changes.items own.0, are_own_weaker P Q so undos own.1)
+  where
+    one : (name : Name) (was : Was) → IsOwnWas P name was → IsOwnWas Q name was
+    one name Apart h = tt
+    one name (Lost file) h = so name h
+    one name (Still now) h = (so name h.0, so now h.1)
+
+    each : (changes : List Change) → AreOwnWas P changes → AreOwnWas Q changes
+    each [] h = tt
+    each (change ∷ changes) h = (one change.name change.was h.0, each changes h.1)
+
+plain_both : (undos others : List Undo) → ArePlain undos → ArePlain others → ArePlain (undos ++ others)
+plain_both [] others h k = k
+plain_both (undo ∷ undos) others h k = (h.0, plain_both undos others h.1 k)
 
 no_file : (o : Option File) → (is_some o ≡ true → ⊥) → o ≡ None
 no_file None h = refl
@@ -160,14 +208,17 @@ not_own false e f = absurd (cc)
 -- A part is back among names of which none is its own.
 pub joined_replayed : (mine : Name → Bool) (disk rest : Disk) (part old new : Replay) → IsReplayed disk part → IsReplayed rest old
     → HoldsOnly (λ n. mine n ≡ true) part → HoldsOnly (λ n. not (mine n) ≡ true) old
-    → names_of new.files ≡ over (names_of part.files) (names_of old.files) → new.undos.items ≡ old.undos.items ++ part.undos.items
+    → names_of new.files ≡ over (names_of part.files) (names_of old.files) → new.undos.items ≡ old.undos.items ++ part.undos.items → new.listed ≡ (old.listed || part.listed)
     → IsReplayed (joined mine disk rest) new
-joined_replayed mine disk rest part old new h k own others files undos = record {
+joined_replayed mine disk rest part old new h k own others files undos listed = record {
   live = files ∙ (λ i n. over_is (mine n) (names_of part.files n) (names_of old.files n)
       (λ e. no_file (names_of part.files n) (λ stands. not_true (mine n) e (own.files n stands)))
       (λ e. no_file (names_of old.files n) (λ stands. not_own (mine n) e (others.files n stands))) i)
       ∙ (λ i. join mine (h.live i) (k.live i));
-  back = subst (λ (l : List Undo). Undoes l (mark (joined mine disk rest).live) (joined mine disk rest).back)
+  plain = λ none.
+      let both = neither_so old.listed part.listed (sym listed ∙ none) in
+      subst (λ (l : List Undo). ArePlain l) (sym undos) (plain_both old.undos.items part.undos.items (k.plain both.0) (h.plain both.1));
+  back = subst (λ (l : List Undo). AreUndone l (mark (joined mine disk rest).live) (joined mine disk rest).back)
       (sym (ap (λ (l : List Undo). reverse l) undos ∙ reverse-append old.undos.items part.undos.items))
       (joined_undone mine disk rest (reverse part.undos.items) (reverse old.undos.items)
       (are_own_reverse (λ n. mine n ≡ true) part.undos.items own.undos) (are_own_reverse (λ n. not (mine n) ≡ true) old.undos.items others.undos) h.back k.back);

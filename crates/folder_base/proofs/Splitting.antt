@@ -119,7 +119,7 @@ set_many [] i x = refl
 set_many (y ∷ l) zero x = refl
 set_many (y ∷ l) (suc i) x = ap suc (set_many l i x)
 
-two_parts : (stems : List Name) → AreDisjoint stems → (i j : ℕ) (a b name : Name) → slice_get stems i ≡ Some a → slice_get stems j ≡ Some b → is_part a name ≡ true → is_part b name ≡ true → i ≡ j
+pub two_parts : (stems : List Name) → AreDisjoint stems → (i j : ℕ) (a b name : Name) → slice_get stems i ≡ Some a → slice_get stems j ≡ Some b → is_part a name ≡ true → is_part b name ≡ true → i ≡ j
 two_parts [] apart i j a b name e f own_a own_b = absurd (cc)
 two_parts (stem ∷ stems) apart zero zero a b name e f own_a own_b = refl
 two_parts (stem ∷ stems) apart zero (suc j) a b name e f own_a own_b =

@@ -177,7 +177,7 @@ renamed_names from to live = put (put live from None) to (live from)
 
 abbrev pub renamed_apart : Name → Name → Disk → Disk
 renamed_apart from to disk =
-    named (from ∷ to ∷ []) (renamed_names from to disk.live) (taken_over disk.live from to)
+    named (to ∷ from ∷ []) (renamed_names from to disk.live) (taken_over disk.live from to)
     (λ spots. put (put (taken_over disk.live from to spots) from None) to (Some (still to))) disk
 
 -- A file that is given the name that it has stays as it is.

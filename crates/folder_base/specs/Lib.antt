@@ -2,10 +2,13 @@ pub mod Changes
 pub mod Content
 pub mod Disk
 pub mod Files
+pub mod Giving
+pub mod Handing
 pub mod Index
 pub mod Least
 pub mod Line
 pub mod Lines
+pub mod Listing
 pub mod Log
 pub mod Logged
 pub mod Memory
@@ -15,6 +18,7 @@ pub mod Parts
 pub mod Places
 pub mod Plan
 pub mod Rejoin
+pub mod Retold
 pub mod Split
 pub mod Stored
 pub mod Steps

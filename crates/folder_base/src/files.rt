@@ -202,6 +202,33 @@ pub(crate) fn copy_name(
     Ok(())
 }
 
+/// A copy of a file, if there is one.
+pub(crate) fn copy_stored(
+    alloc: Global,
+    file: &Option<Stored>,
+) -> Result<Option<Stored>, OutOfMemory>
+    ensures { IfOk result (λ copy. option_map file_of copy ≡ option_map file_of file.now) }
+{
+    match file {
+        Some(file) => Ok(Some(file.copy(alloc)?)),
+        None => Ok(None),
+    }
+}
+
+/// A copy of the file that stands under a name, if there is one.
+pub(crate) fn copy_of(
+    alloc: Global,
+    files: &Files,
+    name: &str,
+) -> Result<Option<Stored>, OutOfMemory>
+    ensures { IfOk result (λ copy. option_map file_of copy ≡ names_of files.now name.now) }
+{
+    match files.get(name) {
+        Some(file) => Ok(Some(file.copy(alloc)?)),
+        None => Ok(None),
+    }
+}
+
 /// Puts copies of all files of `from` among `to`.
 pub(crate) fn copy_all(alloc: Global, from: &Files, to: &mut Files) -> Result<(), OutOfMemory>
     ensures ok { OnOk result
@@ -213,6 +240,15 @@ pub(crate) fn copy_all(alloc: Global, from: &Files, to: &mut Files) -> Result<()
         copy_name(alloc, from, name, to)?;
     }
     Ok(())
+}
+
+/// Copies of all these files.
+pub(crate) fn copy_files(alloc: Global, files: &Files) -> Result<Files, OutOfMemory>
+    ensures { IfOk result (λ copies. names_of copies ≡ names_of files.now) }
+{
+    let mut copies = BTreeMap::new(alloc);
+    copy_all(alloc, files, &mut copies)?;
+    Ok(copies)
 }
 
 /// Removes from `to` all names of `from`.

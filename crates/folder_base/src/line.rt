@@ -118,7 +118,7 @@ impl Line {
                 Ok(replay)
             }
             Side::Part { stem } => {
-                let mut replay = part_of(alloc, &self.log.replay(alloc)?, stem)?;
+                let mut replay = part_of(alloc, self.log.replay(alloc)?, stem)?;
                 make_all(alloc, &mut replay, &self.steps)?;
                 Ok(replay)
             }

@@ -6,17 +6,22 @@ ghost use Rattle.folder_base.specs.Index.{IsIndex, FindsPart};
 ghost use Rattle.folder_base.specs.Log.{lasting, stood, told};
 ghost use Rattle.folder_base.specs.Stop.{filled_names};
 ghost use Rattle.folder_base.specs.Story.{Story};
-ghost use Rattle.folder_base.specs.Undo.{IsReplayed, Replays, Joins, HoldsOnly, AreOwn, first_done};
+ghost use Rattle.folder_base.specs.Undo.{IsReplayed, Replays, Joins, HoldsOnly, first_done};
 
+use crate::change::Change;
+use crate::explain::explain_all;
 use crate::file::File;
-use crate::files::{Files, copy_all, cut_file, extend_file, put_file, store_all, sync_file};
+use crate::files::{
+    Files, copy_all, copy_files, cut_file, extend_file, put_file, store_all, sync_file,
+};
 use crate::index::Index;
 use crate::owning::{are_names_of, are_undos_of};
+use crate::retell::retell_all;
 use crate::step::Step;
 use crate::stored::Stored;
 use crate::undo::Undo;
 use std::alloc::Global;
-use std::collections::BTreeMap;
+use std::mem;
 use text_base::{OutOfMemory, Text};
 
 /// The files that some steps have made, and what undoes the unsettled name changes among the steps.
@@ -25,14 +30,19 @@ pub(crate) struct Replay {
     pub(crate) files: Files,
     /// In the order of the changes.
     pub(crate) undos: Vec<Undo>,
+    /// Whether some of them may be listed.
+    pub(crate) listed: bool,
 }
 
 impl Replay {
-    ghost use Rattle.std.specs.Prelude.{◌≢◌, Bool, [], ◌∷◌, option_map};
-    ghost use Rattle.folder_base.specs.Disk.{Disk, Spots, named, freed, renamed_apart};
+    ghost use Rattle.std.specs.Prelude.{◌≢◌, Bool, false, [], ◌∷◌, option_map};
+    ghost use Rattle.folder_base.specs.Disk.{Disk, Names, Spots, named, freed, renamed_apart};
+    ghost use Rattle.folder_base.specs.Listing.{IsListed};
     ghost use Rattle.folder_base.specs.Log.{does};
+    ghost use Rattle.folder_base.specs.Retold.{AreRetold, retold};
     ghost use Rattle.folder_base.specs.Stop.{stopped};
     ghost use Rattle.folder_base.specs.Stored.{file_of};
+    ghost use Rattle.folder_base.specs.Undo.{ArePlain};
 
     /// Where no step was made yet.
     pub(crate) fn new(alloc: Global, birth: &Vec<File>) -> Result<Replay, OutOfMemory>
@@ -42,21 +52,18 @@ impl Replay {
         Ok(Replay {
             files: store_all(alloc, birth)?,
             undos: Vec::new(alloc),
+            listed: false,
         })
     }
 
-    /// Where these files stand and nothing is pending.
-    pub(crate) fn of(alloc: Global, files: &Files) -> Result<Replay, OutOfMemory>
-        ensures { IfOk result
-            (λ replay. (disk : Disk) → names_of files.now ≡ disk.live → disk.back ≡ []
-            → IsReplayed disk replay) }
+    /// Takes what undoes its unsettled name changes, as lists of what the names had before each.
+    pub(crate) fn explain(&mut self, alloc: Global) -> Result<Vec<Vec<Change>>, OutOfMemory>
+        ensures all { IfOk result
+            (λ all. (disk : Disk) → IsReplayed disk self.old → IsListed disk all.items) }
+        ensures files { self.new.files ≡ self.old.files }
     {
-        let mut copies = BTreeMap::new(alloc);
-        copy_all(alloc, files, &mut copies)?;
-        Ok(Replay {
-            files: copies,
-            undos: Vec::new(alloc),
-        })
+        let undos = mem::replace(&mut self.undos, Vec::new(alloc));
+        explain_all(alloc, &self.files, undos)
     }
 
     /// The files once the first `kept` of its unsettled name changes alone hold, each as long as it
@@ -71,7 +78,8 @@ impl Replay {
             (λ files. (disk : Disk) → IsReplayed disk self
             → stood (λ _. None) files.items ≡ stopped kept fill disk) }
     {
-        undo_last(alloc, kept, &mut self.undos, &mut self.files)?;
+        let live = copy_files(alloc, &self.files)?;
+        undo_last(alloc, kept, &live, &mut self.undos, &mut self.files)?;
         filled_files(alloc, &self.files, fill)
     }
 
@@ -83,9 +91,14 @@ impl Replay {
             → HoldsOnly (λ name. mine name ≡ true) self.old
             → HoldsOnly (λ name. mine name ≡ true) self.new) }
     {
-        let Replay { files, mut undos } = part;
+        let Replay {
+            files,
+            mut undos,
+            listed,
+        } = part;
         copy_all(alloc, &files, &mut self.files)?;
         self.undos.append(&mut undos)?;
+        self.listed |= listed;
         Ok(())
     }
 
@@ -98,6 +111,30 @@ impl Replay {
         are_names_of(index, place, &self.files) && are_undos_of(index, place, &self.undos)
     }
 
+    // Tells again what is listed, once `name` stands for another file than `file`, or for none: for that
+    // of `from`, where it is given.
+    fn retell(
+        &mut self,
+        alloc: Global,
+        name: &str,
+        file: &Option<Stored>,
+        from: Option<&str>,
+    ) -> Result<(), OutOfMemory>
+        ensures files { OnOk result (self.new.files ≡ self.old.files) }
+        ensures listed { OnOk result (self.new.listed ≡ self.old.listed) }
+        ensures undos { OnOk result
+            ((live : Names) → live name.now ≡ option_map file_of file.now
+            → (self.old.listed ≡ false → ArePlain self.old.undos.items)
+            → AreRetold (retold live name.now (option_map (λ text. text.now) from.entry))
+            self.old.undos.items self.new.undos.items) }
+    {
+        if self.listed {
+            let undos = mem::replace(&mut self.undos, Vec::new(alloc));
+            self.undos = retell_all(alloc, undos, name, file, from)?;
+        }
+        Ok(())
+    }
+
     // Puts a file, or none, under a name.
     fn put(&mut self, alloc: Global, name: &str, file: Option<Stored>) -> Result<(), OutOfMemory>
         ensures { (made : Spots → Spots)
@@ -105,6 +142,7 @@ impl Replay {
             (freed disk.live name.now) made disk) self.old self.new result }
     {
         let file = put_file(alloc, &mut self.files, name, file)?;
+        self.retell(alloc, name, &file, None)?;
         let name = Text::new(alloc, name)?;
         self.undos.push(Undo::Freed { name, file })?;
         Ok(())
@@ -117,6 +155,7 @@ impl Replay {
     {
         let moved = put_file(alloc, &mut self.files, from, None)?;
         let file = put_file(alloc, &mut self.files, to, moved)?;
+        self.retell(alloc, to, &file, Some(from))?;
         let from = Text::new(alloc, from)?;
         let to = Text::new(alloc, to)?;
         self.undos.push(Undo::Moved { from, to, file })?;
@@ -148,7 +187,10 @@ impl Replay {
             Step::Synced { name } => {
                 sync_file(&mut self.files, name.as_str());
             }
-            Step::Settled => self.undos.clear(),
+            Step::Settled => {
+                self.undos.clear();
+                self.listed = false;
+            }
         }
         Ok(())
     }
@@ -170,21 +212,23 @@ pub(crate) fn make_all(
     Ok(())
 }
 
-/// Undoes all name changes but the first `kept`.
+/// Undoes all name changes but the first `kept`; `live` are the files before that.
 pub(crate) fn undo_last(
     alloc: Global,
     kept: u64,
+    live: &Files,
     undos: &mut Vec<Undo>,
     files: &mut Files,
 ) -> Result<(), OutOfMemory>
     ensures { OnOk result
-        (names_of files.new ≡ first_done kept (reverse undos.old.items) (names_of files.old)) }
+        (names_of files.new
+        ≡ first_done (names_of live.now) kept (reverse undos.old.items) (names_of files.old)) }
 {
     while undos.len() as u64 > kept {
         let Some(undo) = undos.pop() else {
             break;
         };
-        undo.undo(alloc, files)?;
+        undo.undo(alloc, live, files)?;
     }
     Ok(())
 }

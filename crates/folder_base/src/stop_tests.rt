@@ -1,4 +1,4 @@
-ghost use Rattle.std.specs.Prelude.{IfOk};
+ghost use Rattle.std.specs.Prelude.{IfOk, OnOk};
 ghost use Rattle.folder_base.specs.Memory.{world_of};
 ghost use Rattle.folder_base.specs.Story.{IsWhole};
 
@@ -104,6 +104,60 @@ fn a_stop_takes_the_changes_of_parts_behind_those_of_the_folder(
         (2, "u= w= "),
         (3, "u= v.new= w= "),
         (4, "u= v= w= "),
+    ] {
+        let mut left = folder.after_stop(alloc, kept, b'.')?;
+        assert_eq!(rt; listed(alloc, &mut left)?.as_str(), wanted, "kept {kept}");
+    }
+    Ok(())
+}
+
+// Name changes are unsettled as parts are handed out: one file of the folder went to a part, and one of
+// the part went out and came back.
+fn renamed_across(folder: &mut FolderMem) -> Result<(), FolderFault>
+    requires { IsWhole (world_of folder.old) }
+    ensures { OnOk result (IsWhole (world_of folder.new)) }
+{
+    folder.create("a")?;
+    folder.append("a", b"1")?;
+    folder.sync("a")?;
+    folder.create("v.a")?;
+    folder.append("v.a", b"2")?;
+    folder.sync("v.a")?;
+    folder.settle()?;
+    folder.rename("a", "v")?;
+    folder.rename("v.a", "b")?;
+    folder.rename("b", "v.b")
+}
+
+fn changed_across(alloc: Global) -> Result<FolderMem, Fail>
+    ensures { IfOk result (λ folder. IsWhole (world_of folder)) }
+{
+    let mut folder = FolderMem::new(alloc, Vec::new(alloc), Vec::new(alloc), None)?;
+    renamed_across(&mut folder)?;
+    let stems = two_stems(alloc, "u", "v")?;
+    let (u, mut v) = two_parts(folder.fan(alloc, &stems)?)?;
+    v.append("v", b"+")?;
+    v.append("v.b", b"+")?;
+    v.rename("v.b", "v.c")?;
+    folder.create("w")?;
+    folder.gather(vec![in alloc; u, v]?);
+    Ok(folder)
+}
+
+#[test]
+fn a_stop_tells_a_file_that_left_a_part_as_it_was_handed_out(rt: HostRuntime) -> Result<(), Fail> {
+    let alloc = rt.alloc();
+    let folder = changed_across(alloc)?;
+    for (kept, wanted) in [
+        (0, "a=1 v.a=2. "),
+        (1, "v.a=2. "),
+        (2, "b=2 v.a=2. "),
+        (3, "v.a=2. "),
+        (4, "v.a=2. w= "),
+        (5, "v=1. v.a=2. w= "),
+        (6, "v=1. w= "),
+        (7, "v=1. v.b=2. w= "),
+        (8, "v=1. v.c=2. w= "),
     ] {
         let mut left = folder.after_stop(alloc, kept, b'.')?;
         assert_eq!(rt; listed(alloc, &mut left)?.as_str(), wanted, "kept {kept}");

@@ -1,4 +1,4 @@
-use Rattle.std.proofs.Common.{◌≡◌, ◌∙◌, ◌++◌, ◌∷◌, [], List, sym, refl, ap, true, map, rules, arith, string_bytes, subst}
+use Rattle.std.proofs.Common.{◌∙◌, ◌++◌, ◌∷◌, [], List, sym, refl, ap, map, rules, arith, string_bytes, subst}
 use Rattle.std.specs.Prelude.{bytes_eq}
 use Rattle.std.specs.List.{list_any}
 use Rattle.std.proofs.lemmas.Grind.{common_steps}
@@ -16,7 +16,7 @@ loop-name-preserved c =
     record {
       found = λ stems is name any.
           any_or_last (λ n. FindsPart stems n c.args.place) front last name (c.loop-name.invariant.found stems is name)
-          (subst (λ (n : Name). FindsPart stems n c.args.place) c.deref.ensures (c.if-not-is_name_of.ensures refl stems is))
+          (subst (λ (n : Name). FindsPart stems n c.args.place) c.deref.ensures (c.if-not-is_name_of.ensures.found refl stems is))
           (sym (ap (λ (l : List Name). list_any (bytes_eq name) l) (map-append (λ key. string_bytes key.now) c.loop-name.yielded (c.in-Some.name ∷ []))) ∙ any);
       rest = first_of (search rules, grind (arith, common_steps));
     }

@@ -1,4 +1,4 @@
-use Rattle.std.proofs.Common.{◌≡◌, ◌∙◌, ◌+◌, ◌++◌, ◌∷◌, [], List, sym, refl, ap, subst, take, arith, rules}
+use Rattle.std.proofs.Common.{◌≡◌, ◌∙◌, ◌+◌, ◌++◌, ◌∷◌, [], List, sym, refl, subst, take, arith}
 use Rattle.std.proofs.lemmas.List.{take_more, take_all}
 use Rattle.folder_base.specs.Index.{FindsPart}
 use Rattle.folder_base.specs.Undo.{AreOwn}

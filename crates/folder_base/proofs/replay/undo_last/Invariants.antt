@@ -5,7 +5,7 @@ use Rattle.folder_base.proofs.replay.undo_last.Given as goal
 
 abbrev pub invariant-loop-alloc : goal.invariant-loop-alloc
 invariant-loop-alloc l =
-    first_done l.kept (reverse l.undos.items) (names_of l.files) ≡ first_done l.kept (reverse l.initial.undos.items) (names_of l.initial.files)
+    first_done (names_of l.live) l.kept (reverse l.undos.items) (names_of l.files) ≡ first_done (names_of l.live) l.kept (reverse l.initial.undos.items) (names_of l.initial.files)
 
 abbrev pub decreases-loop-alloc : goal.decreases-loop-alloc
 decreases-loop-alloc l = vec_len l.undos

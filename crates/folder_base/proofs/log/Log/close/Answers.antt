@@ -1,4 +1,4 @@
-use Rattle.std.proofs.Common.{◌≡◌, ◌∙◌, refl, ap, map}
+use Rattle.std.proofs.Common.{◌∙◌, refl, ap, map}
 use Rattle.folder_base.specs.Log.{Chapter, begun, told, chapter_of, rejoined}
 use Rattle.folder_base.proofs.Telling.{round_pushed}
 use Rattle.folder_base.proofs.log.Log.close.Goals as goal

@@ -1,6 +1,5 @@
-use Rattle.std.proofs.Common.{◌≡◌, ◌∙◌, [], ◌∷◌, sym, refl, subst, Some, None, option_map}
-use Rattle.std.specs.Prelude.{Option}
-use Rattle.folder_base.specs.Disk.{Name, File, Spots, still, put, named, freed, longer, shorter, firm}
+use Rattle.std.proofs.Common.{◌∙◌, [], ◌∷◌, sym, refl, subst, Some, None}
+use Rattle.folder_base.specs.Disk.{Name, File, still, put, named, freed, longer, shorter, firm}
 use Rattle.folder_base.specs.Files.{names_of, changed_name}
 use Rattle.folder_base.specs.Log.{does}
 use Rattle.folder_base.specs.Stored.{file_of}
@@ -28,21 +27,21 @@ returns-in_ok-put-in-Removed c = λ disk h.
 
 pub returns-in_ok-extend_file-in-Appended : goal.returns-in_ok-extend_file-in-Appended
 returns-in_ok-extend_file-in-Appended c = λ disk h.
-    let new : Replay = record { files = c.extend_file.new.files; undos = c.args.self.now.undos } in
+    let new : Replay = record { files = c.extend_file.new.files; undos = c.args.self.now.undos; listed = c.args.self.now.listed } in
     subst (λ (s : Step). IsReplayed (does s disk) new) (sym c.in-Appended.is)
     (changed_replayed disk c.args.self.now new c.in-Appended.name (longer c.in-Appended.bytes.items)
-    (c.in_ok-extend_file-in-Appended.ensures.names ∙ (λ i. changed_name (c.as_str-in-Appended.ensures i) (longer (c.deref.ensures.value i)) (names_of c.args.self.now.files))) refl h)
+    (c.in_ok-extend_file-in-Appended.ensures.names ∙ (λ i. changed_name (c.as_str-in-Appended.ensures i) (longer (c.deref.ensures.value i)) (names_of c.args.self.now.files))) refl refl h)
 
 pub returns-in-Cut : goal.returns-in-Cut
 returns-in-Cut c = λ disk h.
-    let new : Replay = record { files = c.cut_file.new.files; undos = c.args.self.now.undos } in
+    let new : Replay = record { files = c.cut_file.new.files; undos = c.args.self.now.undos; listed = c.args.self.now.listed } in
     subst (λ (s : Step). IsReplayed (does s disk) new) (sym c.in-Cut.is)
     (changed_replayed disk c.args.self.now new c.in-Cut.name (shorter c.in-Cut.len)
-    (c.cut_file.ensures.names ∙ (λ i. changed_name (c.as_str-in-Cut.ensures i) (shorter c.in-Cut.len) (names_of c.args.self.now.files))) refl h)
+    (c.cut_file.ensures.names ∙ (λ i. changed_name (c.as_str-in-Cut.ensures i) (shorter c.in-Cut.len) (names_of c.args.self.now.files))) refl refl h)
 
 pub returns-in-Synced : goal.returns-in-Synced
 returns-in-Synced c = λ disk h.
-    let new : Replay = record { files = c.sync_file.new.files; undos = c.args.self.now.undos } in
+    let new : Replay = record { files = c.sync_file.new.files; undos = c.args.self.now.undos; listed = c.args.self.now.listed } in
     subst (λ (s : Step). IsReplayed (does s disk) new) (sym c.in-Synced.is)
     (changed_replayed disk c.args.self.now new c.in-Synced.name firm
-    (c.sync_file.ensures.names ∙ (λ i. changed_name (c.as_str-in-Synced.ensures i) firm (names_of c.args.self.now.files))) refl h)
+    (c.sync_file.ensures.names ∙ (λ i. changed_name (c.as_str-in-Synced.ensures i) firm (names_of c.args.self.now.files))) refl refl h)

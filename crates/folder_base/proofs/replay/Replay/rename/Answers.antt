@@ -14,8 +14,11 @@ returns c = λ disk h.
     let to = c.args.to.now in
     let old = names_of c.args.self.now.files in
     let apart : bytes_eq from to ≡ false = not_same to from (λ e. c.requires (sym e)) in
+    let stood = c.in_ok-file.ensures.stood ∙ ap (λ (m : Names). m to) c.in_ok-moved.ensures.names ∙ put_there old from to None apart in
     moved_replayed disk (λ spots. put (put (taken_over disk.live from to spots) from None) to (Some (still to))) c.args.self.now
-    (record { files = c.put_file-2.new.files; undos = c.push.new.self }) from to apart c.in_ok-file.file
-    (c.in_ok-file.ensures.names ∙ (λ i. put (c.in_ok-moved.ensures.names i) to (c.in_ok-moved.ensures.stood i)))
-    (c.in_ok-file.ensures.stood ∙ ap (λ (m : Names). m to) c.in_ok-moved.ensures.names ∙ put_there old from to None apart)
-    (c.in_ok-push.ensures.items ∙ (λ i. c.args.self.now.undos.items ++ Moved (c.in_ok-from.ensures i) (c.in_ok-to.ensures i) c.in_ok-file.file ∷ [])) h
+    (record { files = c.retell.new.self.files; undos = c.push.new.self; listed = c.retell.new.self.listed }) from to apart c.in_ok-file.file
+    c.retell.new.self.undos.items
+    (ap names_of c.in_ok-retell.ensures.files ∙ c.in_ok-file.ensures.names ∙ (λ i. put (c.in_ok-moved.ensures.names i) to (c.in_ok-moved.ensures.stood i)))
+    stood
+    (c.in_ok-retell.ensures.undos disk.live (ap (λ (m : Names). m to) (sym h.live) ∙ sym stood) h.plain)
+    (c.in_ok-push.ensures.items ∙ (λ i. c.retell.new.self.undos.items ++ Moved (c.in_ok-from.ensures i) (c.in_ok-to.ensures i) c.in_ok-file.file ∷ [])) c.in_ok-retell.ensures.listed h
