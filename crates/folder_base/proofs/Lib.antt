@@ -8,6 +8,7 @@ pub mod Gathered
 pub mod Gathering
 pub mod Giving
 pub mod Handed
+pub mod Holding
 pub mod Images
 pub mod Indexed
 pub mod Lent
@@ -22,6 +23,7 @@ pub mod Rejoined
 pub mod Rejoining
 pub mod Retelling
 pub mod Shared
+pub mod Spelled
 pub mod Splitting
 pub mod Stepping
 pub mod Stopping

@@ -45,6 +45,8 @@ pub use store_fault::StoreFault;
 pub use taker::Taker;
 
 #[cfg(test)]
+mod many_parts_tests;
+#[cfg(test)]
 mod part_tests;
 #[cfg(test)]
 mod stop_tests;
