@@ -1,5 +1,5 @@
 -- What the top call answers, exit by exit.
-use Rattle.std.proofs.Common.{◌≡◌, ◌⊎◌, ℕ, List, take, drop, refl, sym, ◌∙◌, subst, inl, inr}
+use Rattle.std.proofs.Common.{◌≡◌, ◌⊎◌, ℕ, List, [], take, drop, refl, sym, ◌∙◌, subst, inl, inr}
 use Rattle.std.specs.Prelude.{Option, Some, None, IfSome, Result, Ok, Err}
 use Rattle.ytdl_core.specs.declared.entry.Entry.{Entry}
 use Rattle.ytdl_core.specs.declared.report.Report.{Report}
@@ -14,7 +14,7 @@ use Rattle.info_item.specs.Item.{Item as PlainItem}
 use Rattle.ytdl_core.specs.Outside.{File}
 use Rattle.ytdl_core.specs.Words.{Asks, words_of}
 use Rattle.ytdl_core.specs.Reading.{IsReadFault}
-use Rattle.ytdl_core.specs.Run.{OfFile, OfFaultyFile, HaveItems, HaveFault, HaveEntries, IsOfFault, IsOfItems, IsExactOf, IsExact, IsOfWords, IsFaultOfBytes, IsSinkFault, IsUntold, SendsFront}
+use Rattle.ytdl_core.specs.Run.{OfFile, OfFaultyFile, HaveItems, HaveFault, HaveEntries, IsOfFault, IsOfItems, IsExactOf, IsExact, IsOfWords, IsFaultOfBytes, IsSinkFault, IsUntold, IsRead, SendsFront}
 use Rattle.ytdl_core.proofs.LimitLemmas.{fault_of_whole, fault_of_read, items_of_read, entries_of_whole}
 
 -- a fault that is not want of memory is that of the words
@@ -24,18 +24,21 @@ bad_of words word fault (inl memory) = cc memory
 bad_of words word fault (inr same) = same
 
 -- words with a fault are blamed
-pub blamed_word : (words : List (List ℕ)) (word : ℕ) (fault : OptionFault) → words_of words ≡ Err (Bad word fault) →
-    IsOfWords {T = Report} words (Err (Words word fault))
-blamed_word words word fault is = record {
+pub blamed_word : {I O : Type 0} (words : List (List ℕ)) (info : I) (out : O) (word : ℕ) (fault : OptionFault) →
+    words_of words ≡ Err (Bad word fault) → IsOfWords {T = Report} words info info out out (Err (Words word fault))
+blamed_word words info out word fault is = record {
   blamed = λ place other e. let same : (◌≡◌ {A = RunFault} (Words word fault) (Words place other)) = cc e in cc;
   answered = λ place other e. let same : (◌≡◌ {A = Result Options WordsFault} (Err (Bad word fault)) (Err (Bad place other))) = sym is ∙ e in inl (cc same);
+  untouched = λ place other e. (refl, refl);
 }
 
 -- want of memory blames no word
-pub out_of_memory : (words : List (List ℕ)) → IsOfWords {T = Report} words (Err OutOfMemory)
-out_of_memory words = record {
+pub out_of_memory : {I O : Type 0} (words : List (List ℕ)) (info info_now : I) (out out_now : O) →
+    IsOfWords {T = Report} words info info_now out out_now (Err OutOfMemory)
+out_of_memory words info info_now out out_now = record {
   blamed = λ place other e. cc e;
   answered = λ place other e. inr refl;
+  untouched = λ place other e. cc e;
 }
 
 -- a fault that blames no word
@@ -71,17 +74,20 @@ no_word_of_sink OutOfMemory is = tt
 not_both : (words : List (List ℕ)) (options : Options) (fault : WordsFault) → Asks words options → words_of words ≡ Err fault → ⊥
 not_both words options fault asks is = let same : (◌≡◌ {A = Result Options WordsFault} (Ok options) (Err fault)) = sym asks ∙ is in cc same
 
-pub asked_err : (words : List (List ℕ)) (options : Options) (f : RunFault) → Asks words options → BlamesNoWord f →
-    IsOfWords {T = Report} words (Err f)
+pub asked_err : {I O : Type 0} {info info_now : I} {out out_now : O} (words : List (List ℕ)) (options : Options) (f : RunFault) →
+    Asks words options → BlamesNoWord f → IsOfWords {T = Report} words info info_now out out_now (Err f)
 asked_err words options f asks none = record {
   blamed = λ place other e. let same : f ≡ Words place other = cc e in absurd (subst BlamesNoWord same none);
   answered = λ place other e. absurd (not_both words options (Bad place other) asks e);
+  untouched = λ place other e. let same : f ≡ Words place other = cc e in absurd (subst BlamesNoWord same none);
 }
 
-pub asked_ok : (words : List (List ℕ)) (options : Options) (report : Report) → Asks words options → IsOfWords words (Ok report)
+pub asked_ok : {I O : Type 0} {info info_now : I} {out out_now : O} (words : List (List ℕ)) (options : Options) (report : Report) →
+    Asks words options → IsOfWords words info info_now out out_now (Ok report)
 asked_ok words options report asks = record {
   blamed = λ place other e. cc e;
   answered = λ place other e. absurd (not_both words options (Bad place other) asks e);
+  untouched = λ place other e. cc e;
 }
 
 -- words with a fault name no file
@@ -195,3 +201,12 @@ untold_sink words told out out_now err err_now (Info info) is front = absurd is
 untold_sink words told out out_now err err_now InfoRead is front = absurd is
 untold_sink words told out out_now err err_now (Write which) is front = front
 untold_sink words told out out_now err err_now OutOfMemory is front = inr front
+
+-- how far the source was read where a sink failed
+pub read_sink : (told : Option File) (left : Option (List ℕ)) (f : RunFault) → IsSinkFault f → IfSome told (λ file. left ≡ Some []) →
+    IsRead told left (Err f)
+read_sink told left (Words word option) is none = absurd is
+read_sink told left (Info info) is none = absurd is
+read_sink told left InfoRead is none = tt
+read_sink told left (Write which) is none = none
+read_sink told left OutOfMemory is none = tt

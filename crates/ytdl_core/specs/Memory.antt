@@ -1,6 +1,7 @@
 -- What the objects in memory hold.
-use Rattle.std.specs.Prelude.{ℕ, List}
+use Rattle.std.specs.Prelude.{ℕ, List, drop, Bool}
 use Rattle.ytdl_core.specs.Outside.{File}
+use Rattle.ytdl_core.specs.Plan.{plans_none}
 use Rattle.ytdl_core.specs.declared.call_plan.CallPlan.{CallPlan}
 use Rattle.ytdl_core.specs.declared.info_mem.InfoMem.{InfoMem}
 use Rattle.ytdl_core.specs.declared.sink_mem.SinkMem.{SinkMem}
@@ -9,12 +10,34 @@ use Rattle.ytdl_core.specs.declared.sink_mem.SinkMem.{SinkMem}
 abbrev pub held_file : InfoMem → File
 held_file source = record { name = source.name; bytes = source.bytes.items }
 
+-- those of its bytes that were not read yet
+abbrev pub bytes_left : InfoMem → List ℕ
+bytes_left source = drop source.at source.bytes.items
+
+abbrev pub is_source_open : InfoMem → Bool
+is_source_open source = source.is_open
+
+abbrev pub source_faults : InfoMem → ℕ
+source_faults source = source.faults
+
 abbrev pub source_plan : InfoMem → CallPlan
 source_plan source = source.plan
+
+abbrev pub is_steady_source : InfoMem → Bool
+is_steady_source source = plans_none source.plan
 
 -- the bytes that a sink took
 abbrev pub written_bytes : SinkMem → List ℕ
 written_bytes sink = sink.bytes.items
 
+abbrev pub sink_faults : SinkMem → ℕ
+sink_faults sink = sink.faults
+
+abbrev pub sink_refusals : SinkMem → ℕ
+sink_refusals sink = sink.refusals
+
 abbrev pub sink_plan : SinkMem → CallPlan
 sink_plan sink = sink.plan
+
+abbrev pub is_steady_sink : SinkMem → Bool
+is_steady_sink sink = plans_none sink.plan

@@ -1,5 +1,5 @@
 -- Which calls of an object in memory fail.
-use Rattle.std.specs.Prelude.{◌≡◌, ℕ, List, [], ◌∷◌, Bool, true, false, IsTrue}
+use Rattle.std.specs.Prelude.{◌≡◌, ℕ, ◌+◌, ◌-◌, ◌^◌, min, List, [], ◌∷◌, Bool, true, false, IsTrue}
 use Rattle.std.specs.Ordering.{nat_cmp}
 use Rattle.std.specs.BTreeSet.{contains, IsFromIterResult}
 use Rattle.ytdl_core.specs.declared.call_plan.CallPlan.{CallPlan}
@@ -22,3 +22,9 @@ pub record Plans (plan : CallPlan) (fails : List ℕ) : Type 0 where
   pub numbers : IsFromIterResult nat_cmp fails plan.fails
   pub none : fails ≡ [] → plans_none plan ≡ true
   pub first : plan.next ≡ 0
+
+-- One call was counted. Where that was planned it failed, and else a call that is proper did not.
+pub record Counts (proper failed : Type 0) (old new : CallPlan) : Type 0 where
+  pub number : new ≡ record old { next = min (old.next + 1) (2 ^ 64 - 1) }
+  pub fails : FailsNext old → failed
+  pub others : (FailsNext old → ⊥) → proper → failed → ⊥

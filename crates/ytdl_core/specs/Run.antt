@@ -59,10 +59,12 @@ pub record HaveEntries (entries : List Entry) (selection : Selection) (bytes : L
   pub are : entries ≡ entries_of selection items
 
 -- The word that is blamed is the first at fault, and words with a fault are blamed, unless memory ran out.
-pub record IsOfWords {T : Type 0} (words : List (List ℕ)) (result : Result T RunFault) : Type 0 where
+-- Where a word is blamed, the source and standard output are as they were.
+pub record IsOfWords {T I O : Type 0} (words : List (List ℕ)) (info info_now : I) (out out_now : O) (result : Result T RunFault) : Type 0 where
   pub blamed : (word : ℕ) (fault : OptionFault) → result ≡ Err (Words word fault) → words_of words ≡ Err (Bad word fault)
   pub answered : (word : ℕ) (fault : OptionFault) → words_of words ≡ Err (Bad word fault) →
       (result ≡ Err (Words word fault)) ⊎ (result ≡ Err OutOfMemory)
+  pub untouched : (word : ℕ) (fault : OptionFault) → result ≡ Err (Words word fault) → (info_now ≡ info) × (out_now ≡ out)
 
 -- A report has an end for each entry, in order, and every line was written.
 pub record IsReported (words : List (List ℕ)) (told : Option File) (out out_now err err_now : Option (List ℕ)) (report : Report) : Type 0 where
@@ -132,7 +134,7 @@ IsRead told left (Ok report) = IfSome told (λ file. left ≡ Some [])
 IsRead told left (Err (Words word option)) = Unit {0}
 IsRead told left (Err (Info fault)) = IfSome told (λ file. left ≡ Some (drop (most_bytes + 1) file.bytes))
 IsRead told left (Err InfoRead) = Unit {0}
-IsRead told left (Err (Write which)) = Unit {0}
+IsRead told left (Err (Write which)) = IfSome told (λ file. left ≡ Some [])
 IsRead told left (Err OutOfMemory) = Unit {0}
 
 -- The source is said to have failed only where it has, and a steady one only where it does not hold the file that the words name.

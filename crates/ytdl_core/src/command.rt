@@ -35,7 +35,7 @@ pub fn run<I: InfoSource, O: Sink, E: Sink>(
     requires { I.is_open info.old ≡ false }
 
     // Which word is at fault; then no object is touched but for the fault's line.
-    ensures words { IsOfWords words.now.items result }
+    ensures words { IsOfWords words.now.items info.old info.new out.old out.new result }
 
     // An answer is that of the file's bytes: the ends of its items' entries, or its fault.
     ensures report { IfOk result (IsReported words.now.items (I.file info.old)
@@ -83,7 +83,7 @@ fn answer<I: InfoSource, O: Sink, E: Sink>(
     err: &mut E,
 ) -> Result<Report, RunFault>
     requires { I.is_open info.old ≡ false }
-    ensures words { IsOfWords words.now.items result }
+    ensures words { IsOfWords words.now.items info.old info.new out.old out.new result }
     ensures report { IfOk result (IsReported words.now.items (I.file info.old)
         (O.written out.old) (O.written out.new) (E.written err.old) (E.written err.new)) }
     ensures exact { IsExact words.now.items (I.file info.old) result }

@@ -1,6 +1,5 @@
 ghost use Rattle.std.specs.Prelude.{◌≡◌, ◌≤◌, length, Some, true, false, IfOk};
-ghost use Rattle.std.proofs.Math.ListN.{drop};
-ghost use Rattle.ytdl_core.specs.Plan.{Plans, plans_none};
+ghost use Rattle.ytdl_core.specs.Plan.{Plans};
 
 use crate::call_plan::CallPlan;
 use crate::source::InfoSource;
@@ -20,7 +19,7 @@ pub struct InfoMem {
 }
 
 impl InfoMem {
-    ghost use Rattle.ytdl_core.specs.Memory.{held_file, source_plan};
+    ghost use Rattle.ytdl_core.specs.Memory.{held_file, is_source_open, source_faults, source_plan};
 
     /// A file that was not opened. Its calls are numbered from 0, and `fails` lists those that fail.
     pub fn new(
@@ -31,8 +30,9 @@ impl InfoMem {
     ) -> Result<InfoMem, OutOfMemory>
         ensures file { IfOk result (λ source.
             held_file source ≡ record { name = name.now; bytes = bytes.items }) }
-        ensures closed { IfOk result (λ source. ⟦<InfoMem as InfoSource>⟧.is_open source ≡ false) }
+        ensures closed { IfOk result (λ source. is_source_open source ≡ false) }
         ensures plan { IfOk result (λ source. Plans (source_plan source) fails.items) }
+        ensures faults { IfOk result (λ source. source_faults source ≡ 0) }
     {
         Ok(InfoMem {
             name: Text::new(alloc, name)?,
@@ -46,17 +46,37 @@ impl InfoMem {
 }
 
 impl InfoSource for InfoMem {
-    ghost file = { λ s. Some (record { name = s.name; bytes = s.bytes.items }) };
+    ghost use Rattle.std.specs.Prelude.{◌≢◌, ◌++◌, ⊤, IsErr, IsOk, OnOk, OnErr, MatchResult, take};
+    ghost use Rattle.std.specs.Io.{ReadsAtMost};
+    ghost use Rattle.std.specs.Io.KnownBytes.{ReadConsumes};
+    ghost use Rattle.text_base.specs.Causes.{HasCause};
+    ghost use Rattle.ytdl_core.specs.Memory.{held_file, bytes_left, is_source_open, source_faults, source_plan, is_steady_source};
+    ghost use Rattle.ytdl_core.specs.Plan.{Counts};
 
-    ghost left = { λ s. Some (drop s.at s.bytes.items) };
+    ghost file = { λ s. Some (held_file s) };
 
-    ghost is_open = { λ s. s.is_open };
+    ghost left = { λ s. Some (bytes_left s) };
 
-    ghost faults = { λ s. s.faults };
+    ghost is_open = { is_source_open };
 
-    ghost is_steady = { λ s. plans_none s.plan };
+    ghost faults = { source_faults };
 
-    fn open(&mut self, name: &str) -> Result<(), Failed> {
+    ghost is_steady = { is_steady_source };
+
+    fn open(&mut self, name: &str) -> Result<(), Failed>
+        requires { is_source_open self.old ≡ false }
+        ensures name { OnOk result ((held_file self.old).name ≡ name.now) }
+        ensures open { MatchResult result (λ _. is_source_open self.new ≡ true)
+            (λ _. is_source_open self.new ≡ false) }
+        ensures left { MatchResult result (λ _. bytes_left self.new ≡ (held_file self.old).bytes)
+            (λ _. bytes_left self.new ≡ bytes_left self.old) }
+        ensures file { held_file self.new ≡ held_file self.old }
+        ensures planned { Counts ((held_file self.old).name ≡ name.now) (IsErr result)
+            (source_plan self.old) (source_plan self.new) }
+        ensures steady { is_steady_source self.old ≡ true → OnErr result
+            ((held_file self.old).name ≢ name.now) }
+        ensures cause { HasCause (source_faults self.old) (source_faults self.new) result }
+    {
         if self.plan.fails_now() || self.name.as_str() != name {
             self.faults = self.faults.saturating_add(1);
             return Err(Failed);
@@ -66,7 +86,16 @@ impl InfoSource for InfoMem {
         Ok(())
     }
 
-    fn read(&mut self, buf: &mut [u8]) -> Result<usize, Failed> {
+    fn read(&mut self, buf: &mut [u8]) -> Result<usize, Failed>
+        requires { is_source_open self.old ≡ true }
+        ensures bound { ReadsAtMost result buf.new }
+        ensures bytes { ReadConsumes (Some (bytes_left self.old)) (Some (bytes_left self.new)) result buf.new }
+        ensures open { is_source_open self.new ≡ true }
+        ensures file { held_file self.new ≡ held_file self.old }
+        ensures planned { Counts ⊤ (IsErr result) (source_plan self.old) (source_plan self.new) }
+        ensures steady { is_steady_source self.old ≡ true → IsOk result }
+        ensures cause { HasCause (source_faults self.old) (source_faults self.new) result }
+    {
         if self.plan.fails_now() {
             self.faults = self.faults.saturating_add(1);
             return Err(Failed);

@@ -1,5 +1,7 @@
-ghost use Rattle.std.specs.Prelude.{◌≡◌, Some, [], IfOk};
-ghost use Rattle.ytdl_core.specs.Plan.{Plans, plans_none};
+ghost use Rattle.std.specs.Prelude.{◌≡◌, ◌≢◌, ◌++◌, Some, [], true, ⊤, IfOk, IsErrOf, OnOk, OnErr};
+ghost use Rattle.ytdl_core.specs.Memory.{written_bytes, sink_faults, sink_refusals, sink_plan, is_steady_sink};
+ghost use Rattle.ytdl_core.specs.Outside.{HasCauses};
+ghost use Rattle.ytdl_core.specs.Plan.{Plans, Counts};
 
 use crate::call_plan::CallPlan;
 use crate::sink::Sink;
@@ -16,12 +18,12 @@ pub struct SinkMem {
 }
 
 impl SinkMem {
-    ghost use Rattle.ytdl_core.specs.Memory.{written_bytes, sink_plan};
-
     /// An empty sink. Its calls are numbered from 0, and `fails` lists those that fail.
     pub fn new(alloc: Global, fails: Vec<u64>) -> Result<SinkMem, OutOfMemory>
         ensures empty { IfOk result (λ sink. written_bytes sink ≡ []) }
         ensures plan { IfOk result (λ sink. Plans (sink_plan sink) fails.items) }
+        ensures faults { IfOk result (λ sink. sink_faults sink ≡ 0) }
+        ensures refusals { IfOk result (λ sink. sink_refusals sink ≡ 0) }
     {
         Ok(SinkMem {
             bytes: Vec::new(alloc),
@@ -40,15 +42,23 @@ impl SinkMem {
 }
 
 impl Sink for SinkMem {
-    ghost written = { λ s. Some s.bytes.items };
+    ghost written = { λ s. Some (written_bytes s) };
 
-    ghost faults = { λ s. s.faults };
+    ghost faults = { sink_faults };
 
-    ghost refusals = { λ s. s.refusals };
+    ghost refusals = { sink_refusals };
 
-    ghost is_steady = { λ s. plans_none s.plan };
+    ghost is_steady = { is_steady_sink };
 
-    fn put(&mut self, bytes: &[u8]) -> Result<(), FolderFault> {
+    fn put(&mut self, bytes: &[u8]) -> Result<(), FolderFault>
+        ensures whole { OnOk result (written_bytes self.new ≡ written_bytes self.old ++ bytes.now) }
+        ensures nothing { OnErr result (written_bytes self.new ≡ written_bytes self.old) }
+        ensures planned { Counts ⊤ (IsErrOf result FolderFault.Failed)
+            (sink_plan self.old) (sink_plan self.new) }
+        ensures steady { is_steady_sink self.old ≡ true → result ≢ Err FolderFault.Failed }
+        ensures causes { HasCauses (sink_faults self.old) (sink_faults self.new)
+            (sink_refusals self.old) (sink_refusals self.new) result }
+    {
         if self.plan.fails_now() {
             self.faults = self.faults.saturating_add(1);
             return Err(FolderFault::Failed);

@@ -6,12 +6,12 @@ use Rattle.ytdl_core.specs.Run.{HaveEntries}
 use Rattle.ytdl_core.specs.Views.{plain_options, plain_selection}
 use Rattle.ytdl_core.proofs.ScriptLemmas.{sends_nothing}
 use Rattle.ytdl_core.proofs.LimitLemmas.{nothing_left}
-use Rattle.ytdl_core.proofs.RunLemmas.{bad_of, blamed_word, exact_bad, asked_err, asked_ok, no_word_of_read, no_word_of_bytes, no_word_of_sink, entries_of_file, exact_err, exact_ok, exact_sink, untold_sink}
+use Rattle.ytdl_core.proofs.RunLemmas.{bad_of, blamed_word, exact_bad, asked_err, asked_ok, no_word_of_read, no_word_of_bytes, no_word_of_sink, entries_of_file, exact_err, exact_ok, exact_sink, untold_sink, read_sink}
 use Rattle.ytdl_core.proofs.command.answer.Goals as goal
 
 pub returns-in-Err-Bad-clause-words : goal.returns-in-Err-Bad-clause-words
 returns-in-Err-Bad-clause-words g c =
-    rw (c.in-Err-Bad.word-is, c.in-Err-Bad.fault-is) (blamed_word c.args.words.now.items c.in-Err-Bad.word c.in-Err-Bad.fault (bad_of c.args.words.now.items c.in-Err-Bad.word c.in-Err-Bad.fault (rw c.in-Err-Bad.field-0-is at c.in-Err-Bad.ensures.fault)))
+    rw (c.in-Err-Bad.word-is, c.in-Err-Bad.fault-is) (blamed_word c.args.words.now.items c.args.info.now c.args.out.now c.in-Err-Bad.word c.in-Err-Bad.fault (bad_of c.args.words.now.items c.in-Err-Bad.word c.in-Err-Bad.fault (rw c.in-Err-Bad.field-0-is at c.in-Err-Bad.ensures.fault)))
 
 pub returns-in-Err-Bad-clause-exact : goal.returns-in-Err-Bad-clause-exact
 returns-in-Err-Bad-clause-exact g c =
@@ -118,3 +118,13 @@ returns-clause-read g c =
     rw c.deref.ensures.value at c.in_ok-entries.ensures.entries in
     nothing_left (g.I.InfoSource.file c.args.info.now) (g.I.InfoSource.left c.read_file.new.info) c.in_ok-entries.entries.items
     (plain_selection c.in-Ok.options.selection) c.in_ok-bytes.bytes.items c.in_ok-bytes.ensures.bytes have
+
+pub returns-in_err-write-clause-read : goal.returns-in_err-write-clause-read
+returns-in_err-write-clause-read g c =
+    let e = err_from_is_err_and c.from_residual-in_err-write.result c.from_residual-in_err-write.ensures.1 in
+    let have : HaveEntries c.in_ok-entries.entries.items (plain_selection c.in-Ok.options.selection) c.in_ok-bytes.bytes.items =
+    rw c.deref.ensures.value at c.in_ok-entries.ensures.entries in
+    rw (e.1, e.2)
+    (read_sink (g.I.InfoSource.file c.args.info.now) (g.I.InfoSource.left c.read_file.new.info) c.in_err-write.field-0.0 c.in_err-write.ensures.fault
+    (nothing_left (g.I.InfoSource.file c.args.info.now) (g.I.InfoSource.left c.read_file.new.info) c.in_ok-entries.entries.items
+    (plain_selection c.in-Ok.options.selection) c.in_ok-bytes.bytes.items c.in_ok-bytes.ensures.bytes have))
