@@ -7,7 +7,6 @@ mod output;
 #[cfg(test)]
 mod socket_tests;
 mod system_opener;
-mod system_reader;
 mod tcp_dialer;
 #[cfg(test)]
 mod tests;

@@ -1,8 +1,9 @@
 ghost use Rattle.std.specs.Prelude.{None};
 
 use crate::opener::Opener;
-use crate::system_reader::SystemReader;
-use std::fs;
+use either::Either;
+use std::fs::{self, File};
+use std::io::Stdin;
 use text_base::Failed;
 
 /// The name that stands for standard input.
@@ -15,16 +16,16 @@ pub struct SystemOpener<'a> {
 }
 
 impl Opener for SystemOpener<'_> {
-    type Reader = SystemReader;
+    type Reader = Either<File, Stdin>;
 
     ghost file = { λ s. None };
 
-    fn open(&self, name: &str) -> Result<SystemReader, Failed> {
+    fn open(&self, name: &str) -> Result<Either<File, Stdin>, Failed> {
         if name == STANDARD_INPUT {
-            return Ok(SystemReader::Input(self.rt.stdin()));
+            return Ok(Either::Right(self.rt.stdin()));
         }
         match fs::open(self.rt, name) {
-            Ok(file) => Ok(SystemReader::File(file)),
+            Ok(file) => Ok(Either::Left(file)),
             Err(_) => Err(Failed),
         }
     }
