@@ -1,6 +1,9 @@
-ghost use Rattle.std.specs.Prelude.{◌≡◌, ◌++◌, ℕ, List, false, nat_eq, is_some, codes};
+ghost use Rattle.std.specs.Prelude.{◌≡◌, ◌<◌, ◌≤◌, ◌++◌, ℕ, List, false, length, take, nat_eq, codes, IsTrue, IfOk, OnErr, IsErr, IsErrOf, IsOk, IsSome};
+ghost use Rattle.std.specs.Io.KnownBytes.{ReadConsumes, WriteAppends};
 ghost use Rattle.std.specs.List.{starts_with};
+ghost use Rattle.link_http.specs.Wire.{AsksNothing, Counts, Hears, Sends};
 ghost use Rattle.ytdl.specs.Silent.{silent};
+ghost use Rattle.ytdl.specs.Stream.{told_by, wire_of};
 
 use link_http::Dialer;
 use std::io::{self, ErrorKind, Read, Write};
@@ -12,7 +15,8 @@ use text_base::{Failed, FolderFault};
 /// The most seconds that all connects of a dial take together, and that one send or recv takes.
 const PATIENCE: u64 = 20;
 
-/// Opens connections over sockets. It tells nothing but its count of faults.
+/// Opens connections over sockets. It tells nothing but its count of faults; what its stream tells
+/// of its bytes is kept by each call.
 #[derive(Drop)]
 pub struct TcpDialer<'a, N: Net + Clock> {
     net: &'a N,
@@ -23,7 +27,7 @@ pub struct TcpDialer<'a, N: Net + Clock> {
 impl<'a, N: Net + Clock> TcpDialer<'a, N> {
     /// Without a connection.
     pub fn new(net: &'a N) -> Self
-        ensures { ⟦<TcpDialer<'a, N> as Dialer>⟧.wire result ≡ silent 0 false }
+        ensures { wire_of result ≡ silent 0 false }
     {
         TcpDialer {
             net,
@@ -34,14 +38,14 @@ impl<'a, N: Net + Clock> TcpDialer<'a, N> {
 
     /// How often it failed.
     pub fn faults(&self) -> u64
-        ensures { result ≡ (⟦<TcpDialer<'a, N> as Dialer>⟧.wire self.now).faults }
+        ensures { result ≡ (wire_of self.now).faults }
     {
         self.faults
     }
 }
 
 impl<N: Net + Clock> Dialer for TcpDialer<'_, N> {
-    ghost wire = { λ d. silent d.faults (is_some d.stream) };
+    ghost wire = { wire_of };
 
     fn dial(&mut self, host: &str, port: u16) -> Result<(), FolderFault> {
         self.stream = None;
@@ -57,7 +61,20 @@ impl<N: Net + Clock> Dialer for TcpDialer<'_, N> {
         }
     }
 
-    fn send(&mut self, bytes: &[u8]) -> Result<usize, FolderFault> {
+    fn send(&mut self, bytes: &[u8]) -> Result<usize, FolderFault>
+        requires connected { IsSome (wire_of self.old).line }
+        requires some { 0 < length bytes.now }
+        ensures counts { let failed = IsErrOf result FolderFault.Failed in
+            Counts (wire_of self.old) (wire_of self.new) (IsOk result) failed }
+        ensures connected { IsSome (wire_of self.new).line }
+        ensures sent { IfOk result (λ n. (0 < n) × (n ≤ length bytes.now)) }
+        ensures kept { IsTrue (wire_of self.new).tells
+            → OnErr result (AsksNothing (wire_of self.old) (wire_of self.new)) }
+        ensures told { IsTrue (wire_of self.new).tells
+            → IfOk result (λ n. Sends (take n bytes.now) (wire_of self.old) (wire_of self.new)) }
+        ensures written { WriteAppends (told_by N.Stream.Write.contents self.old)
+            (told_by N.Stream.Write.contents self.new) result bytes.now }
+    {
         let Some(stream) = &mut self.stream else {
             unreachable!()
         };
@@ -70,7 +87,18 @@ impl<N: Net + Clock> Dialer for TcpDialer<'_, N> {
         }
     }
 
-    fn recv(&mut self, buf: &mut [u8]) -> Result<usize, Failed> {
+    fn recv(&mut self, buf: &mut [u8]) -> Result<usize, Failed>
+        requires connected { IsSome (wire_of self.old).line }
+        ensures counts { Counts (wire_of self.old) (wire_of self.new) (IsOk result) (IsErr result) }
+        ensures connected { IsSome (wire_of self.new).line }
+        ensures placed { IfOk result (λ n. n ≤ length buf.new) }
+        ensures asks { IsTrue (wire_of self.new).tells
+            → AsksNothing (wire_of self.old) (wire_of self.new) }
+        ensures told { IsTrue (wire_of self.new).tells
+            → IfOk result (λ n. Hears (length buf.old) n buf.new (wire_of self.old) (wire_of self.new)) }
+        ensures read { ReadConsumes (told_by N.Stream.Read.remaining self.old)
+            (told_by N.Stream.Read.remaining self.new) result buf.new }
+    {
         let Some(stream) = &mut self.stream else {
             unreachable!()
         };
