@@ -1,9 +1,11 @@
-ghost use Rattle.std.specs.Prelude.{None};
+ghost use Rattle.either.specs.Either.{left, right};
+ghost use Rattle.std.specs.Prelude.{◌≡◌, ◌≢◌, None, OnOk, IfOk, IfSome, IsOk, IsSome, codes};
+ghost use Rattle.ytdl_core.specs.Outside.{File as Named, whole_file};
 
 use crate::opener::Opener;
 use either::Either;
 use std::fs::{self, File};
-use std::io::Stdin;
+use std::io::{Read, Stdin};
 use text_base::Failed;
 
 /// The name that stands for standard input.
@@ -20,7 +22,15 @@ impl Opener for SystemOpener<'_> {
 
     ghost file = { λ s. None };
 
-    fn open(&self, name: &str) -> Result<Either<File, Stdin>, Failed> {
+    fn open(&self, name: &str) -> Result<Either<File, Stdin>, Failed>
+        ensures name { OnOk result (IfSome {T = Named} None (λ f. f.name ≡ name.now)) }
+        ensures whole { IfOk result
+            (λ reader. ⟦<Either<File, Stdin> as Read>⟧.remaining reader ≡ whole_file None) }
+
+        // Standard input needs no opening.
+        ensures input { name.now ≡ codes "-" → IsOk result × IfOk result (λ reader. IsSome (right reader)) }
+        ensures file { name.now ≢ codes "-" → IfOk result (λ reader. IsSome (left reader)) }
+    {
         if name == STANDARD_INPUT {
             return Ok(Either::Right(self.rt.stdin()));
         }
