@@ -11,6 +11,8 @@ mod tcp_dialer;
 #[cfg(test)]
 mod tests;
 
+ghost use Rattle.std.specs.Prelude.{◌≡◌, IfSome, drop, map, string_bytes};
+
 use info_file::InfoFile;
 use output::Output;
 use std::alloc::Global;
@@ -25,13 +27,21 @@ const BAD_WORDS: u8 = 2;
 
 /// The words of the command line behind the program's name, where they are UTF-8.
 fn words(rt: &HostRuntime, alloc: Global) -> Option<Vec<Text>> {
-    let mut words = Vec::new(alloc);
-    let mut args = env::args(rt).ok()?;
-    let _program = args.next();
-    for arg in args {
-        words.push(Text::from(arg)).ok()?;
+    let args = env::args(rt).ok()?.collect(alloc).ok()?;
+    texts_behind(alloc, args)
+}
+
+/// All texts but the first.
+fn texts_behind(alloc: Global, all: Vec<String>) -> Option<Vec<Text>>
+    ensures { IfSome result (λ texts. texts.items ≡ drop 1 (map string_bytes all.items)) }
+{
+    let mut texts = Vec::new(alloc);
+    let mut all = all.into_iter();
+    let _first = all.next();
+    for text in all {
+        texts.push(Text::from(text)).ok()?;
     }
-    Some(words)
+    Some(texts)
 }
 
 fn main(rt: HostRuntime) -> ExitCode {
