@@ -7,7 +7,6 @@ mod explain;
 mod file;
 mod files;
 mod folder;
-mod folder_call;
 mod index;
 mod line;
 mod listing;
@@ -39,10 +38,10 @@ mod was;
 
 pub use file::File;
 pub use folder::Folder;
-pub use folder_call::FolderCall;
 pub use memory::FolderMem;
 pub use store_fault::StoreFault;
 pub use taker::Taker;
+pub use text_base::FolderCall;
 
 #[cfg(test)]
 mod many_parts_tests;

@@ -1,4 +1,4 @@
-use crate::folder_call::FolderCall;
+use text_base::FolderCall;
 use thiserror::Error;
 
 /// Why a call that works by a folder was refused.

@@ -1,4 +1,4 @@
-use folder_base::FolderCall;
+use text_base::FolderCall;
 use thiserror::Error;
 
 /// Why one try to fetch a piece failed.

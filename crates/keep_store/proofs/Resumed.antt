@@ -4,7 +4,7 @@ use Rattle.std.specs.Prelude.{Contains, Result, Err, IsErrOf, ⊤, Option, Some,
 use Rattle.std.specs.String.{string_capacity}
 use Rattle.text_base.specs.declared.folder_fault.FolderFault.{FolderFault}
 use Rattle.text_base.specs.declared.folder_fault.FolderFault.TheVariants.{Failed, OutOfMemory}
-use Rattle.folder_base.specs.declared.folder_call.FolderCall.TheVariants.{Names}
+use Rattle.text_base.specs.declared.folder_call.FolderCall.TheVariants.{Names}
 use Rattle.folder_base.specs.declared.store_fault.StoreFault.{StoreFault}
 use Rattle.folder_base.specs.declared.store_fault.StoreFault.TheVariants.{OutOfMemory as NoMemory}
 use Rattle.folder_base.specs.Disk.{Name, Bytes, File, content, begins}

@@ -5,7 +5,7 @@ use Rattle.text_base.specs.declared.folder_fault.FolderFault.{FolderFault}
 use Rattle.text_base.specs.declared.folder_fault.FolderFault.TheVariants.{Failed, OutOfMemory}
 use Rattle.folder_base.specs.Disk.{Name, File, Disk, Image, May, content, put, synced, renamed}
 use Rattle.folder_base.specs.Story.{World, Story, Through}
-use Rattle.folder_base.specs.declared.folder_call.FolderCall.{FolderCall}
+use Rattle.text_base.specs.declared.folder_call.FolderCall.{FolderCall}
 use Rattle.folder_base.specs.declared.store_fault.StoreFault.{StoreFault}
 use Rattle.folder_base.specs.declared.store_fault.StoreFault.TheVariants.{Folder, OutOfMemory as NoMemory}
 

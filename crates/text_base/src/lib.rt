@@ -2,6 +2,7 @@
 #![tactic(auto)]
 
 mod failed;
+mod folder_call;
 mod folder_fault;
 mod kept;
 mod num_arithmetic;
@@ -21,6 +22,7 @@ mod text;
 mod text_field;
 
 pub use failed::Failed;
+pub use folder_call::FolderCall;
 pub use folder_fault::FolderFault;
 pub use num_arithmetic::{nano, num_add, num_cmp, num_mul, num_sub};
 pub use num_fault::NumFault;
