@@ -2,11 +2,13 @@ pub mod DecimalLemmas
 pub mod DigitsLemmas
 pub mod GrammarLemmas
 pub mod FrontLemmas
+pub mod Logic
 pub mod PartsLemmas
 pub mod PlacesLemmas
 pub mod ProductLemmas
 pub mod ReadBackLemmas
 pub mod RoundingLemmas
 pub mod SizeLemmas
+pub mod SpaceLemmas
 pub mod SpellingLemmas
 pub mod TextLemmas

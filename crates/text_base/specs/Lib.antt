@@ -1,4 +1,5 @@
 pub mod Arithmetic
+pub mod CallPlan
 pub mod Causes
 pub mod Fields
 pub mod Grammar
@@ -9,6 +10,7 @@ pub mod Reading
 pub mod Rounding
 pub mod Scan
 pub mod Size
+pub mod Spaces
 pub mod Spelled
 pub mod Spelling
 pub mod Value

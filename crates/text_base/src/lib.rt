@@ -1,7 +1,9 @@
 //! Texts, numbers, the byte scans, and the words for what was refused.
 #![tactic(auto)]
 
+mod call_plan;
 mod failed;
+mod fault_count;
 mod folder_call;
 mod folder_fault;
 mod kept;
@@ -18,10 +20,13 @@ mod number;
 mod out_of_memory;
 mod scan;
 mod size;
+mod spaces;
 mod text;
 mod text_field;
 
+pub use call_plan::{CallPlan, FaultPlan};
 pub use failed::Failed;
+pub use fault_count::FaultCount;
 pub use folder_call::FolderCall;
 pub use folder_fault::FolderFault;
 pub use num_arithmetic::{nano, num_add, num_cmp, num_mul, num_sub};
@@ -34,6 +39,7 @@ pub use number::{Dec, Num};
 pub use out_of_memory::OutOfMemory;
 pub use scan::{first_json_special, first_name_special};
 pub use size::{size_of_bytes, size_value};
+pub use spaces::{trimmed, without_first_spaces, without_last_spaces};
 pub use text::Text;
 pub use text_field::TextField;
 
