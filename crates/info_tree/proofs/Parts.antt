@@ -3,26 +3,27 @@ use Rattle.std.proofs.Common.{◌≡◌, ℕ, zero, suc, ◌+◌, ◌≤◌, Lis
 use Rattle.std.specs.Prelude.{Some, None, slice_get}
 use Rattle.std.specs.List.{zip, IsDistinct, AllByRecursion}
 use Rattle.std.specs.Str.{bytes_eq}
-use Rattle.std.proofs.lemmas.Cmp.{nat_list_eq_equiv}
+use Rattle.std.proofs.lemmas.Option.{same_Some}
+use Rattle.text_base.proofs.Logic.{bytes_differ_back}
 use Rattle.info_tree.specs.Tree.{Tree as Plain, trees_of, pairs_of, tree_size, trees_size, pairs_size}
 use Rattle.info_tree.specs.Pairs.{value_at, put, HaveDistinctKeys}
-use Rattle.info_tree.proofs.Places.{some_is, none_not_some}
+use Rattle.info_tree.proofs.Places.{none_not_some}
 
 -- an item is no larger than its list
 pub item_size : (ts : List Plain) (i : ℕ) (t : Plain) → slice_get ts i ≡ Some t → tree_size t ≤ trees_size (trees_of ts)
 item_size [] i t e = absurd (none_not_some e)
-item_size (x ∷ ts) zero t e = let same : x ≡ t = some_is e in rw (← same) (omega arith)
+item_size (x ∷ ts) zero t e = let same : x ≡ t = same_Some _ _ e in rw (← same) (omega arith)
 item_size (x ∷ ts) (suc i) t e = omega (arith, item_size ts i t e)
 
 -- nor is a value of a map
 pub pair_size : (ps : List (List ℕ × Plain)) (i : ℕ) (p : List ℕ × Plain) → slice_get ps i ≡ Some p → tree_size p.1 ≤ pairs_size (pairs_of ps)
 pair_size [] i p e = absurd (none_not_some e)
-pair_size (x ∷ ps) zero p e = let same : x.1 ≡ p.1 = ap (λ q. q.1) (some_is e) in rw (← same) (omega arith)
+pair_size (x ∷ ps) zero p e = let same : x.1 ≡ p.1 = ap (λ q. q.1) (same_Some _ _ e) in rw (← same) (omega arith)
 pair_size (x ∷ ps) (suc i) p e = omega (arith, pair_size ps i p e)
 
 item_after : {A : Type 0} (ts : List A) (i : ℕ) (t : A) → slice_get ts i ≡ Some t → take i ts ++ t ∷ [] ≡ take (suc i) ts
 item_after [] i t e = absurd (none_not_some e)
-item_after (x ∷ ts) zero t e = λ j. sym (some_is e) j ∷ []
+item_after (x ∷ ts) zero t e = λ j. sym (same_Some _ _ e) j ∷ []
 item_after (x ∷ ts) (suc i) t e = ap (λ l. x ∷ l) (item_after ts i t e)
 
 pub next_item : {A : Type 0} (ts : List A) (i : ℕ) (t : A) → slice_get ts i ≡ Some t → take i ts ++ t ∷ [] ≡ take (i + 1) ts
@@ -36,18 +37,15 @@ differs (x ∷ ps) i p k n e = step (bytes_eq k x.0) refl n i e (λ j. differs p
     step : (b : Bool) → bytes_eq k x.0 ≡ b → cond b (Some x.1) (value_at ps k) ≡ None → (j : ℕ) → slice_get (x ∷ ps) j ≡ Some p →
         ((m : ℕ) → value_at ps k ≡ None → slice_get ps m ≡ Some p → bytes_eq k p.0 ≡ false) → bytes_eq k p.0 ≡ false
     step true h m j f rest = absurd (none_not_some (sym m))
-    step false h m zero f rest = subst (λ (q : List ℕ × Plain). bytes_eq k q.0 ≡ false) (some_is f) h
+    step false h m zero f rest = subst (λ (q : List ℕ × Plain). bytes_eq k q.0 ≡ false) (same_Some _ _ f) h
     step false h m (suc j) f rest = rest j m f
-
-flipped : (a b : List ℕ) → bytes_eq a b ≡ false → bytes_eq b a ≡ false
-flipped a b h = nat_list_eq_equiv.symm b a ∙ h
 
 pair_after : (ps : List (List ℕ × Plain)) (i : ℕ) (p : List ℕ × Plain) → HaveDistinctKeys ps → slice_get ps i ≡ Some p →
     put (take i ps) p.0 p.1 ≡ take (suc i) ps
 pair_after [] i p d e = absurd (none_not_some e)
-pair_after (x ∷ ps) zero p d e = λ j. sym (some_is e) j ∷ []
+pair_after (x ∷ ps) zero p d e = λ j. sym (same_Some _ _ e) j ∷ []
 pair_after (x ∷ ps) (suc i) p d e =
-    let other : bytes_eq p.0 x.0 ≡ false = flipped x.0 p.0 (differs ps i p x.0 d.0 e) in
+    let other : bytes_eq p.0 x.0 ≡ false = bytes_differ_back x.0 p.0 (differs ps i p x.0 d.0 e) in
     rw other (ap (λ l. x ∷ l) (pair_after ps i p d.1 e))
 
 -- the next pair goes last

@@ -5,6 +5,7 @@ use Rattle.std.specs.List.{position, position_or_len, list_any, IsDistinct, AllB
 use Rattle.std.specs.Str.{bytes_eq}
 use Rattle.std.proofs.lemmas.Bool.Decides.{nat_tests}
 use Rattle.std.proofs.lemmas.Cmp.{nat_list_eq_equiv}
+use Rattle.std.proofs.lemmas.Option.{same_Some}
 
 abbrev pub next_place : Option ℕ → Option ℕ
 next_place None = None
@@ -62,15 +63,12 @@ pub position-push : {X : Type 0} (p : X → Bool) (xs : List X) (y : X) → posi
 position-push p xs y =
     position_is p (xs ++ y ∷ []) ∙ find_at-push p xs y ∙ ap (λ o. first_of_two o (cond (p y) (Some (length xs)) None)) (sym (position_is p xs))
 
-pub some_is : {A : Type 0} {x y : A} → Some x ≡ Some y → x ≡ y
-some_is e = cc
-
 pub none_not_some : {A : Type 0} {x : A} → None ≡ Some x → ⊥
 none_not_some e = cc
 
 differs_from : (k y : List ℕ) (ks : List (List ℕ)) (i : ℕ) → AllByRecursion (λ z. bytes_eq y z ≡ false) ks → slice_get ks i ≡ Some k → bytes_eq k y ≡ false
 differs_from k y [] i h e = absurd (none_not_some e)
-differs_from k y (x ∷ ks) zero h e = let same : x ≡ k = some_is e in nat_list_eq_equiv.symm k y ∙ subst (λ (z : List ℕ). bytes_eq y z ≡ false) same h.0
+differs_from k y (x ∷ ks) zero h e = let same : x ≡ k = same_Some x k e in nat_list_eq_equiv.symm k y ∙ subst (λ (z : List ℕ). bytes_eq y z ≡ false) same h.0
 differs_from k y (x ∷ ks) (suc i) h e = differs_from k y ks i h.1 e
 
 not_before : (ks : List (List ℕ)) (i : ℕ) (k : List ℕ) → IsDistinct bytes_eq ks → slice_get ks i ≡ Some k → find_at (bytes_eq k) (take i ks) ≡ None

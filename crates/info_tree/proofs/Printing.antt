@@ -4,7 +4,7 @@ use Rattle.std.specs.Prelude.{Option, Some, None, map, slice_get, ◌==◌, nat_
 use Rattle.std.specs.Str.{chars}
 use Rattle.std.proofs.lemmas.Bool.Decides.{nat_tests}
 use Rattle.std.proofs.lemmas.List.{append-nil}
-use Rattle.std.proofs.lemmas.Option.{none-some}
+use Rattle.std.proofs.lemmas.Option.{none-some, same_Some}
 use Rattle.std.proofs.lemmas.Str.{chars-nil}
 use Rattle.text_base.specs.Scan.{is_json_special}
 use Rattle.info_tree.specs.Token.{byte, ArePieces}
@@ -12,16 +12,9 @@ use Rattle.info_tree.specs.Tree.{Tree as Plain, list, mapping, trees_of, pairs_o
 use Rattle.info_tree.specs.Printed.{printed, items, members, comma_text, deeper, quoted, escaped, all_by}
 use Rattle.info_tree.specs.declared.style.Style.{Style}
 
-some_is : {A : Type 0} {x y : A} → Some x ≡ Some y → x ≡ y
-some_is {x = x} e = ap (λ o. or_else x o) e
-  where
-    or_else : {A : Type 0} → A → Option A → A
-    or_else d None = d
-    or_else d (Some a) = a
-
 drop_after : {A : Type 0} (ts : List A) (i : ℕ) (t : A) → slice_get ts i ≡ Some t → drop i ts ≡ t ∷ drop (suc i) ts
 drop_after [] i t e = absurd (none-some t e)
-drop_after (x ∷ ts) zero t e = ap (λ y. y ∷ ts) (some_is e)
+drop_after (x ∷ ts) zero t e = ap (λ y. y ∷ ts) (same_Some x t e)
 drop_after (x ∷ ts) (suc i) t e = drop_after ts i t e
 
 drop_at : {A : Type 0} (ts : List A) (i : ℕ) (t : A) → slice_get ts i ≡ Some t → drop i ts ≡ t ∷ drop (i + 1) ts

@@ -11,6 +11,7 @@ use Rattle.info_tree.specs.Pairs.{put}
 abbrev pub put_all : List (List ℕ × Tree) → List (List ℕ × Tree) → List (List ℕ × Tree)
 put_all = fold (λ ps p. put ps p.0 p.1)
 
+-- the value that a word stands for
 abbrev pub word_value : Word → Tree
 word_value null_word = null
 word_value true_word = truth true

@@ -116,6 +116,7 @@ pub record EndsEscape (bytes : List ℕ) (value : Escape) (rest : List ℕ) : Ty
 abbrev pub NoEscape : List ℕ → Type 0
 NoEscape bytes = (p : Piece) (rest : List ℕ) → IsPiece p → 92 ∷ bytes ≡ piece_bytes p ++ rest → ⊥
 
+-- an open list or map of the program, as the machine has it
 abbrev pub plain_frame : Frame → machine.Frame
 plain_frame (frame.List ts) = machine.in_list ts
 plain_frame (frame.Map ps k) = machine.in_map ps k
@@ -124,6 +125,7 @@ plain_frame (frame.Map ps k) = machine.in_map ps k
 abbrev pub plain_frames : List Frame → List machine.Frame
 plain_frames fs = reverse (map plain_frame fs)
 
+-- what the program waits for, as the machine has it
 abbrev pub plain_next : Next → machine.Next
 plain_next next.Value = machine.value
 plain_next next.ItemOrEnd = machine.item_or_end

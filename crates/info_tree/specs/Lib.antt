@@ -10,6 +10,7 @@ pub mod Plain
 pub mod Printed
 pub mod Reading
 pub mod ReadsAgain
+pub mod Scalars
 pub mod Strings
 pub mod Token
 pub mod Tree

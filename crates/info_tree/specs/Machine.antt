@@ -19,6 +19,7 @@ pub data Mark : Type 0 where
   scalar : Tree → Mark
   chars : List ℕ → Mark
 
+-- the mark that a token stands for
 abbrev pub mark_of : Token → Mark
 mark_of token.begin_list = begin_list
 mark_of token.end_list = end_list
@@ -35,6 +36,7 @@ pub data Frame : Type 0 where
   in_list : List Tree → Frame
   in_map : List (List ℕ × Tree) → List ℕ → Frame
 
+-- what comes next: a value, an item or the end of a list, a key or the end of a map, a key behind a comma, the colon behind a key, or what follows a whole value
 pub data Next : Type 0 where
   value : Next
   item_or_end : Next
@@ -43,6 +45,7 @@ pub data Next : Type 0 where
   colon_after : List (List ℕ × Tree) → List ℕ → Next
   done : Tree → Next
 
+-- the open lists and maps, innermost first, and what comes next
 abbrev pub State : Type 0
 State = List Frame × Next
 
@@ -129,6 +132,7 @@ after_value [] t mark = None
 after_value (in_list xs ∷ fs) t mark = after_item fs (xs ++ t ∷ []) mark
 after_value (in_map ps k ∷ fs) t mark = after_member fs (put ps k t) mark
 
+-- the state behind a mark, by what came next
 abbrev pub take_mark : List Frame → Next → Mark → Option State
 take_mark fs value mark = begin_value fs mark
 take_mark fs item_or_end mark = item_or_close fs mark
@@ -137,6 +141,7 @@ take_mark fs (key ps) mark = a_key fs ps mark
 take_mark fs (colon_after ps k) mark = a_colon fs ps k mark
 take_mark fs (done t) mark = after_value fs t mark
 
+-- the state behind a token; none where the token may not come
 abbrev pub step : List Frame → Next → Token → Option State
 step fs next tok = take_mark fs next (mark_of tok)
 

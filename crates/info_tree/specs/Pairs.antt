@@ -18,6 +18,7 @@ abbrev pub put : List (List ℕ × Tree) → List ℕ → Tree → List (List �
 put [] key t = (key, t) ∷ []
 put (p ∷ ps) key t = if bytes_eq key p.0 then (p.0, t) ∷ ps else p ∷ put ps key t
 
+-- pairs as a list
 abbrev pub pair_list : Pairs → List (List ℕ × Tree)
 pair_list no_pairs = []
 pair_list (a_pair k t ps) = (k, t) ∷ pair_list ps

@@ -4,6 +4,7 @@ use Rattle.text_base.specs.Number.{number_of}
 use Rattle.info_tree.specs.declared.tree.Tree.{Tree}
 use Rattle.info_tree.specs.declared.tree.Tree.TheVariants.{Null, Bool, Num, Text, List as Items, Map}
 
+-- the tree that a value stands for, variant by variant
 abbrev pub plain : Tree → Plain
 plain Null = null
 plain (Bool b) = truth b

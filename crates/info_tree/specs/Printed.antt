@@ -43,6 +43,7 @@ unfoldable pub inside : Bool → List ℕ → List ℕ
 inside true t = all_by ascii_escaped (chars t)
 inside false t = all_by escaped t
 
+-- a text in its quotes
 abbrev pub quoted : Bool → List ℕ → List ℕ
 quoted ascii t = 34 ∷ (inside ascii t ++ 34 ∷ [])
 
@@ -61,6 +62,7 @@ abbrev pub comma_text : Bool → List ℕ
 comma_text true = codes ","
 comma_text false = codes ", "
 
+-- the word of a truth value
 abbrev pub truth_text : Bool → List ℕ
 truth_text true = codes "true"
 truth_text false = codes "false"
@@ -77,10 +79,12 @@ abbrev mutual
   printed s line (mapping no_pairs) = codes "{}"
   printed s line (mapping (a_pair k t ps)) = 123 ∷ (members s (deeper s.pretty line) [] (a_pair k t ps) ++ (line ++ 125 ∷ []))
 
+  -- the items of a list, each behind the mark and on its line; behind the first the mark is the comma
   pub items : Style → List ℕ → List ℕ → Trees → List ℕ
   items s line mark no_trees = []
   items s line mark (a_tree t ts) = mark ++ (line ++ (printed s line t ++ items s line (comma_text s.pretty) ts))
 
+  -- the pairs of a map, likewise
   pub members : Style → List ℕ → List ℕ → Pairs → List ℕ
   members s line mark no_pairs = []
   members s line mark (a_pair k t ps) =

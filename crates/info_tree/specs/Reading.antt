@@ -13,10 +13,11 @@ use Rattle.info_tree.specs.declared.tree.Tree.{Tree}
 use Rattle.info_tree.specs.declared.tree_fault.TreeFault.{TreeFault}
 use Rattle.info_tree.specs.declared.tree_fault.TreeFault.TheVariants.{Syntax, Depth, Number, NotUtf8, TooLong, OutOfMemory}
 
--- how long a text may be, and how many lists and maps may be open at once
+-- how many bytes a text may have
 abbrev pub most_bytes : ℕ
 most_bytes = 67108864
 
+-- how many lists and maps may be open at once
 abbrev pub most_levels : ℕ
 most_levels = 128
 
@@ -32,6 +33,7 @@ IsAccepted (word w) = Unit {0}
 IsAccepted (numeral s) = IsSome (number_value s)
 IsAccepted (string ps) = Unit {0}
 
+-- all of these tokens are accepted
 abbrev pub AreAccepted : List Token → Type 0
 AreAccepted [] = Unit {0}
 AreAccepted (t ∷ ts) = IsAccepted t × AreAccepted ts

@@ -49,10 +49,12 @@ abbrev mutual
   IsSound (list ts) = AreSound ts
   IsSound (mapping ps) = HaveDistinctKeys (pair_list ps) × HaveSound ps
 
+  -- all trees of a list have it
   pub AreSound : Trees → Type 0
   AreSound no_trees = Unit {0}
   AreSound (a_tree t ts) = IsSound t × AreSound ts
 
+  -- all pairs have it, and their keys are UTF-8
   pub HaveSound : Pairs → Type 0
   HaveSound no_pairs = Unit {0}
   HaveSound (a_pair k t ps) = IsUtf8 k × IsSound t × HaveSound ps

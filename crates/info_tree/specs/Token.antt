@@ -10,11 +10,13 @@ pub data Piece : Type 0 where
   short : ℕ → Piece
   hex : ℕ → ℕ → ℕ → ℕ → Piece
 
+-- the three words
 pub data Word : Type 0 where
   null_word : Word
   true_word : Word
   false_word : Word
 
+-- the six signs, a word, a number by its spelling, or a string by its pieces
 pub data Token : Type 0 where
   begin_list : Token
   end_list : Token
@@ -32,6 +34,7 @@ piece_bytes (byte b) = b ∷ []
 piece_bytes (short letter) = 92 ∷ letter ∷ []
 piece_bytes (hex a b c d) = 92 ∷ 117 ∷ a ∷ b ∷ c ∷ d ∷ []
 
+-- pieces as they are spelled, one after another
 abbrev pub pieces_bytes : List Piece → List ℕ
 pieces_bytes [] = []
 pieces_bytes (u ∷ us) = piece_bytes u ++ pieces_bytes us
@@ -40,6 +43,7 @@ pieces_bytes (u ∷ us) = piece_bytes u ++ pieces_bytes us
 abbrev pub is_escape_letter : ℕ → Bool
 is_escape_letter b = b == 34 || b == 92 || b == 47 || b == 98 || b == 102 || b == 110 || b == 114 || b == 116
 
+-- a hexadecimal digit, in either case
 abbrev pub IsHexDigit : ℕ → Type 0
 IsHexDigit b = digit_value b < 16
 
@@ -49,10 +53,12 @@ IsPiece (byte b) = is_json_special b ≡ false
 IsPiece (short letter) = is_escape_letter letter ≡ true
 IsPiece (hex a b c d) = IsHexDigit a × IsHexDigit b × IsHexDigit c × IsHexDigit d
 
+-- all of these may stand in a string
 abbrev pub ArePieces : List Piece → Type 0
 ArePieces [] = Unit {0}
 ArePieces (u ∷ us) = IsPiece u × ArePieces us
 
+-- a word as it is spelled
 abbrev pub word_bytes : Word → List ℕ
 word_bytes null_word = codes "null"
 word_bytes true_word = codes "true"
@@ -91,6 +97,7 @@ pub record BeginsWith (bytes : List ℕ) (token : Token) (rest : List ℕ) : Typ
 abbrev pub is_space : ℕ → Bool
 is_space b = b == 32 || b == 9 || b == 10 || b == 13
 
+-- what is left behind white space
 abbrev pub after_space : List ℕ → List ℕ
 after_space [] = []
 after_space (b ∷ bs) = if is_space b then after_space bs else b ∷ bs

@@ -19,14 +19,17 @@ mutual
     no_pairs : Pairs
     a_pair : List ℕ → Tree → Pairs → Pairs
 
+-- a list of trees, in the form that a tree has it
 abbrev pub trees_of : List Tree → Trees
 trees_of [] = no_trees
 trees_of (t ∷ ts) = a_tree t (trees_of ts)
 
+-- and back
 abbrev pub tree_list : Trees → List Tree
 tree_list no_trees = []
 tree_list (a_tree t ts) = t ∷ tree_list ts
 
+-- a list of pairs, in the form that a tree has it
 abbrev pub pairs_of : List (List ℕ × Tree) → Pairs
 pairs_of [] = no_pairs
 pairs_of (p ∷ ps) = a_pair p.0 p.1 (pairs_of ps)

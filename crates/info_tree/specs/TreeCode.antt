@@ -6,24 +6,29 @@ use Rattle.std.proofs.Common.{sym, ap, ◌∙◌}
 use base.Stored.{Gv, gnil, gnum, gcons}
 use Rattle.info_tree.specs.Tree.{Tree, null, truth, number, text, list, mapping, Trees, no_trees, a_tree, Pairs, no_pairs, a_pair}
 
+-- the code of a text: its bytes in order
 abbrev bytes_code : List ℕ → Gv
 bytes_code [] = gnil
 bytes_code (n ∷ ns) = gcons (gnum n) (bytes_code ns)
 
+-- the number that a code is
 abbrev num_of : Gv → ℕ
 num_of gnil = 0
 num_of (gnum n) = n
 num_of (gcons a b) = 0
 
+-- the text of a code
 abbrev bytes_from : Gv → List ℕ
 bytes_from gnil = []
 bytes_from (gnum n) = []
 bytes_from (gcons a b) = num_of a ∷ bytes_from b
 
+-- the code of a text gives it back
 bytes_back : (ns : List ℕ) → bytes_from (bytes_code ns) ≡ ns
 bytes_back [] = refl
 bytes_back (n ∷ ns) = λ i. n ∷ bytes_back ns i
 
+-- The code of a tree: null is the empty code, and each other variant has a number in front.
 abbrev mutual
   tree_code : Tree → Gv
   tree_code null = gnil
@@ -52,6 +57,7 @@ record Read : Type 0 where
   as_pairs : Pairs
   in_front : Tree × Pairs
 
+-- the tree of a code, by the number in front
 abbrev tree_by : ℕ → Gv → Read → Tree
 tree_by zero g r = truth true
 tree_by (suc zero) g r = truth false
@@ -63,6 +69,7 @@ tree_by (suc (suc (suc (suc (suc (suc zero)))))) g r = text (bytes_from g)
 tree_by (suc (suc (suc (suc (suc (suc (suc zero))))))) g r = list r.as_trees
 tree_by (suc (suc (suc (suc (suc (suc (suc (suc n)))))))) g r = mapping r.as_pairs
 
+-- what a code stands for, in each of the four ways
 abbrev read_code : Gv → Read
 read_code gnil = record { as_tree = null; as_trees = no_trees; as_pairs = no_pairs; in_front = (null, no_pairs) }
 read_code (gnum n) = record { as_tree = null; as_trees = no_trees; as_pairs = no_pairs; in_front = (null, no_pairs) }
@@ -73,6 +80,7 @@ read_code (gcons a b) = record {
   in_front = ((read_code a).as_tree, (read_code b).as_pairs);
 }
 
+-- The code of a tree gives it back.
 mutual
   tree_back : (t : Tree) → (read_code (tree_code t)).as_tree ≡ t
   tree_back null = refl
@@ -94,14 +102,17 @@ mutual
   pairs_back no_pairs = refl
   pairs_back (a_pair k t ps) = λ i. a_pair (bytes_back k i) (tree_back t i) (pairs_back ps i)
 
+-- how a tree is stored
 pub coded_tree : Coded Tree
 coded_tree = record {
   code = tree_code;
   inj = λ x y p. sym (tree_back x) ∙ ap (λ g. (read_code g).as_tree) p ∙ tree_back y;
 }
 
+-- how a list of trees is stored
 abbrev pub coded_trees : Coded (List Tree)
 coded_trees = coded_list coded_tree
 
+-- how a list of pairs is stored
 abbrev pub coded_pairs : Coded (List (List ℕ × Tree))
 coded_pairs = coded_list (coded× (coded_list coded_ℕ) coded_tree)

@@ -26,27 +26,26 @@ impl Tree {
 fn copy_list(alloc: Global, list: &TreeList) -> Result<TreeList, OutOfMemory>
     ensures { IfOk result (λ l. l ≡ list.now) }
 {
-    let mut copy = TreeList::new(alloc);
+    let mut copied = TreeList::with_capacity(alloc, list.len())?;
     for place in 0..list.len() {
         let Some(tree) = list.get(place) else {
             break;
         };
-        copy.push(tree.copy(alloc)?)?;
+        copied.push(tree.copy(alloc)?)?;
     }
-    Ok(copy)
+    Ok(copied)
 }
 
 #[cycle(copy)]
 fn copy_map(alloc: Global, map: &TreeMap) -> Result<TreeMap, OutOfMemory>
     ensures { IfOk result (λ m. m ≡ map.now) }
 {
-    let mut copy = TreeMap::new(alloc);
-    map.keys_differ();
+    let mut copied = TreeMap::new(alloc);
     for place in 0..map.len() {
         let Some((key, tree)) = map.pair(place) else {
             break;
         };
-        copy.set(String::from_str(alloc, key)?, tree.copy(alloc)?)?;
+        copied.put(Text::new(alloc, key)?, tree.copy(alloc)?)?;
     }
-    Ok(copy)
+    Ok(copied)
 }

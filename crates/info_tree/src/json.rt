@@ -1,4 +1,4 @@
-ghost use Rattle.std.specs.Prelude.{◌≡◌, ◌++◌, ◌==◌, if◌then◌else◌, [], IfOk, OnOk};
+ghost use Rattle.std.specs.Prelude.{◌≡◌, ◌++◌, ◌==◌, if◌then◌else◌, [], IfOk, OnOk, OnErr};
 ghost use Rattle.std.specs.String.{string_bytes};
 ghost use Rattle.info_tree.specs.Tree as form;
 ghost use Rattle.info_tree.specs.Plain.{plain};
@@ -20,9 +20,33 @@ pub fn tree_json(alloc: Global, tree: &Tree, style: Style) -> Result<Text, OutOf
     ensures reads_again { IfOk result (ReadsAgain (plain tree.now)) }
 {
     let mut out = String::new(alloc);
-    let line = if style.pretty { "\n" } else { "" };
-    push_tree(alloc, &mut out, tree, style, line)?;
+    push_json(alloc, &mut out, tree, style)?;
     Ok(Text::from(out))
+}
+
+/// Puts the JSON text of a tree at the end of a buffer.
+///
+/// # Errors
+///
+/// Want of memory, and then the buffer is empty.
+pub fn push_json(
+    alloc: Global,
+    out: &mut String,
+    tree: &Tree,
+    style: Style,
+) -> Result<(), OutOfMemory>
+    ensures text { OnOk result (string_bytes out.new ≡ string_bytes out.old
+        ++ printed style (first_line style.pretty) (plain tree.now)) }
+    // What is printed has what the law of `tree_json` takes of a tree.
+    ensures sound { OnOk result (IsSound (plain tree.now)) }
+    ensures err { OnErr result (string_bytes out.new ≡ []) }
+{
+    let line = if style.pretty { "\n" } else { "" };
+    let pushed = push_tree(alloc, out, tree, style, line);
+    if pushed.is_err() {
+        out.clear();
+    }
+    pushed
 }
 
 #[cycle(print)]
@@ -100,7 +124,6 @@ fn push_map(
         out.push_str("{}")?;
         return Ok(());
     }
-    map.keys_differ();
     let inner = deeper_line(alloc, style.pretty, line)?;
     out.push('{')?;
     for place in 0..map.len() {

@@ -1,4 +1,4 @@
-ghost use Rattle.std.specs.Prelude.{◌≡◌, slice_get, None, IfOk, OnOk, OnErr, [], ◌∷◌, ◌++◌};
+ghost use Rattle.std.specs.Prelude.{◌≡◌, length, slice_get, None, IfOk, OnOk, OnErr, [], ◌∷◌, ◌++◌};
 ghost use Rattle.std.specs.Option.{ForSome, option_map};
 ghost use Rattle.std.specs.List.{position, IsDistinct};
 ghost use Rattle.std.specs.Str.{bytes_eq};
@@ -46,11 +46,12 @@ impl Keys {
         }
     }
 
-    /// No two are equal.
-    pub fn differ(&self)
-        ensures { IsDistinct bytes_eq self.now }
+    /// How many there are, no two of which are equal.
+    pub fn len(&self) -> usize
+        ensures len { result ≡ length self.now }
+        ensures distinct { IsDistinct bytes_eq self.now }
     {
-        let _ = self.texts.len();
+        self.texts.len()
     }
 
     pub fn get(&self, place: usize) -> Option<&str>

@@ -16,7 +16,7 @@ mod token;
 mod tree;
 mod tree_fault;
 
-pub use json::tree_json;
+pub use json::{push_json, tree_json};
 pub use keys::Keys;
 pub use reader::read_tree;
 pub use style::Style;
@@ -29,3 +29,5 @@ mod copy_tests;
 mod json_tests;
 #[cfg(test)]
 mod tests;
+#[cfg(test)]
+mod tree_tests;

@@ -1,4 +1,4 @@
-ghost use Rattle.std.specs.Prelude.{◌≡◌, ◌<◌, vec_len, slice_set, length, slice_get, OnOk, []};
+ghost use Rattle.std.specs.Prelude.{◌≡◌, ◌<◌, vec_len, slice_set, length, slice_get, OnOk, OnErr, []};
 ghost use Rattle.std.specs.Option.{option_map};
 ghost use Rattle.info_tree.specs.Plain.{plain};
 ghost use Rattle.info_tree.specs.Pairs.{value_at, put, HaveDistinctKeys};
@@ -50,17 +50,12 @@ impl Members {
         }
     }
 
+    /// How many pairs there are, no two of which have the same key.
     pub fn len(&self) -> usize
-        ensures { result ≡ length self.now }
+        ensures len { result ≡ length self.now }
+        ensures distinct { HaveDistinctKeys self.now }
     {
-        self.values.len()
-    }
-
-    /// No two pairs have the same key.
-    pub fn keys_differ(&self)
-        ensures { HaveDistinctKeys self.now }
-    {
-        self.keys.differ();
+        self.keys.len()
     }
 
     pub fn get(&self, key: &str) -> Option<&Tree>
@@ -81,7 +76,8 @@ impl Members {
 
     /// Puts a tree under a key: a key that is there keeps its place.
     pub fn put(&mut self, key: Text, tree: Tree) -> Result<(), OutOfMemory>
-        ensures { OnOk result (self.new ≡ put self.old key (plain tree)) }
+        ensures ok { OnOk result (self.new ≡ put self.old key (plain tree)) }
+        ensures err { OnErr result (self.new ≡ self.old) }
     {
         match self.keys.place_of(key.as_str()) {
             Some(place) => {

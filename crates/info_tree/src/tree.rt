@@ -1,7 +1,9 @@
-ghost use Rattle.std.specs.Prelude.{◌≡◌, length, slice_get, OnOk, [], ◌∷◌, ◌++◌};
+ghost use Rattle.std.specs.Prelude.{◌≡◌, length, slice_get, IfOk, OnOk, OnErr, [], ◌∷◌, ◌++◌};
 ghost use Rattle.std.specs.Option.{option_map};
 ghost use Rattle.std.specs.String.{string_bytes};
 ghost use Rattle.info_tree.specs.Plain.{plain};
+ghost use Rattle.text_base.specs.Number.{number_of as value_of};
+ghost use Rattle.info_tree.specs.Scalars.{text_of, number_of};
 ghost use Rattle.info_tree.specs.Pairs.{value_at, put, member, item, HaveDistinctKeys};
 
 use crate::members::Members;
@@ -85,14 +87,25 @@ impl TreeList {
         }
     }
 
+    /// An empty list with room for this many trees.
+    pub fn with_capacity(alloc: Global, count: usize) -> Result<TreeList, OutOfMemory>
+        ensures { IfOk result (λ list. list ≡ []) }
+    {
+        Ok(TreeList {
+            items: Vec::with_capacity(alloc, count)?,
+        })
+    }
+
     pub fn len(&self) -> usize
         ensures { result ≡ length self.now }
     {
         self.items.len()
     }
 
+    /// Puts a tree last.
     pub fn push(&mut self, tree: Tree) -> Result<(), AllocError>
         ensures ok { OnOk result (self.new ≡ self.old ++ plain tree ∷ []) }
+        ensures err { OnErr result (self.new ≡ self.old) }
     {
         self.items.push(tree)?;
         Ok(())
@@ -115,21 +128,14 @@ impl TreeMap {
         }
     }
 
+    /// How many pairs there are, no two of which have the same key.
     pub fn len(&self) -> usize
-        ensures { result ≡ length self.now }
+        ensures len { result ≡ length self.now }
+        ensures distinct { HaveDistinctKeys self.now }
     {
         match &self.members {
             Some(members) => members.len(),
             None => 0,
-        }
-    }
-
-    /// No two pairs have the same key.
-    pub fn keys_differ(&self)
-        ensures { HaveDistinctKeys self.now }
-    {
-        if let Some(members) = &self.members {
-            members.keys_differ();
         }
     }
 
@@ -154,14 +160,16 @@ impl TreeMap {
 
     /// Puts a tree under a key: a key that is there keeps its place.
     pub fn set(&mut self, key: String, tree: Tree) -> Result<(), OutOfMemory>
-        ensures { OnOk result (self.new ≡ put self.old (string_bytes key) (plain tree)) }
+        ensures ok { OnOk result (self.new ≡ put self.old (string_bytes key) (plain tree)) }
+        ensures err { OnErr result (self.new ≡ self.old) }
     {
         self.put(Text::from(key), tree)
     }
 
-    /// The same under a text of our own.
-    pub(crate) fn put(&mut self, key: Text, tree: Tree) -> Result<(), OutOfMemory>
-        ensures { OnOk result (self.new ≡ put self.old key (plain tree)) }
+    /// The same under a key that is a `Text`.
+    pub fn put(&mut self, key: Text, tree: Tree) -> Result<(), OutOfMemory>
+        ensures ok { OnOk result (self.new ≡ put self.old key (plain tree)) }
+        ensures err { OnErr result (self.new ≡ self.old) }
     {
         let mut members = match self.members.take() {
             Some(members) => members,
@@ -190,6 +198,26 @@ impl Tree {
     {
         match self {
             Tree::List(list) => list.get(place),
+            _ => None,
+        }
+    }
+
+    /// The text that the tree is.
+    pub fn as_text(&self) -> Option<&str>
+        ensures { option_map (λ t. t.now) result ≡ text_of (plain self.now) }
+    {
+        match self {
+            Tree::Text(text) => Some(text.as_str()),
+            _ => None,
+        }
+    }
+
+    /// The number that the tree is.
+    pub fn as_number(&self) -> Option<Num>
+        ensures { option_map value_of result ≡ number_of (plain self.now) }
+    {
+        match self {
+            Tree::Num(number) => Some(*number),
             _ => None,
         }
     }

@@ -1,6 +1,5 @@
 use Rattle.std.proofs.Common.{◌≡◌, ◌*◌, ◌<◌, arith, rules}
 use Rattle.std.specs.Prelude.{Some, None, slice_get}
-use Rattle.std.specs.String.{string_bytes}
 use Rattle.std.proofs.lemmas.Option.{slice_get_past}
 use Rattle.info_tree.specs.Tree.{tree_size}
 use Rattle.info_tree.specs.Plain.{plain}
@@ -38,9 +37,9 @@ pub copy::copy_map-loop-place-preserved : goal.copy::copy_map-loop-place-preserv
 copy::copy_map-loop-place-preserved c = λ a.
     let got : slice_get a.args.map.now a.loop-place.place ≡ Some (a.in-Some.key.now, plain a.in-Some.tree.now) = search rules in
     let same : plain a.in_ok-copy.field-0 ≡ plain a.in-Some.tree.now = a.in_ok-copy.ensures in
-    let key : string_bytes a.in_ok-from_str.field-0 ≡ a.in-Some.key.now = a.in_ok-from_str.ensures.ok in
-    rw (a.in_ok-set.ensures, a.loop-place.invariant, key, same)
-    (next_pair a.args.map.now a.loop-place.place (a.in-Some.key.now, plain a.in-Some.tree.now) a.keys_differ.ensures got)
+    let key : a.in_ok-new.field-0 ≡ a.in-Some.key.now = a.in_ok-new.ensures in
+    rw (a.in_ok-put.ensures.ok, a.loop-place.invariant, key, same)
+    (next_pair a.args.map.now a.loop-place.place (a.in-Some.key.now, plain a.in-Some.tree.now) a.len-place-end.ensures.distinct got)
 
 pub copy::copy_map-returns : goal.copy::copy_map-returns
 copy::copy_map-returns c = λ a.

@@ -14,8 +14,8 @@ decreases-copy::copy_map l = 2 * pairs_size (pairs_of l.map.now) + 1
 
 -- the items before this place are copied
 abbrev pub invariant-copy::copy_list-loop-place : goal.invariant-copy::copy_list-loop-place
-invariant-copy::copy_list-loop-place l = l.copy ≡ take l.place l.list
+invariant-copy::copy_list-loop-place l = l.copied ≡ take l.place l.list
 
 -- the pairs before this place are copied
 abbrev pub invariant-copy::copy_map-loop-place : goal.invariant-copy::copy_map-loop-place
-invariant-copy::copy_map-loop-place l = l.copy ≡ take l.place l.map
+invariant-copy::copy_map-loop-place l = l.copied ≡ take l.place l.map

@@ -89,7 +89,7 @@ push_map-returns-clause-out c = λ a.
       | push_map-else-loop-place-test w ↦ slice_get_past parts a.loop-place.place (search rules)
       | push_map-then-loop-place-test+in_default w ↦ search rules
     ] in
-    let many : length parts ≡ 0 → ⊥ = λ e. a.if-len-eq0.false (a.len.ensures ∙ e) in
+    let many : length parts ≡ 0 → ⊥ = λ e. a.if-len-eq0.false (a.len.ensures.len ∙ e) in
     let begun : string_bytes a.push.new.self ≡ string_bytes a.args.out.now ++ 123 ∷ [] = search rules in
     let deep : inner ≡ deeper s.pretty line = a.in_ok-inner.ensures in
     let all : string_bytes a.loop-place.out ≡ string_bytes a.push.new.self ++ members s inner [] (pairs_of parts) =
@@ -115,5 +115,5 @@ push_map-returns-clause-sound c = λ a.
       | push_map-else-loop-place-test w ↦ slice_get_past parts a.loop-place.place (search rules)
       | push_map-then-loop-place-test+in_default w ↦ search rules
     ] in
-    let differ : HaveDistinctKeys (pair_list (pairs_of parts)) = rw (pair_list-pairs_of parts) a.keys_differ.ensures in
+    let differ : HaveDistinctKeys (pair_list (pairs_of parts)) = rw (pair_list-pairs_of parts) a.len.ensures.distinct in
     (differ, subst (λ (l : List (List ℕ × Plain)). HaveSound (pairs_of l)) (all_taken parts a.loop-place.place past) a.loop-place.invariant.sound)
