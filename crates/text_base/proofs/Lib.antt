@@ -8,6 +8,7 @@ pub mod PlacesLemmas
 pub mod ProductLemmas
 pub mod ReadBackLemmas
 pub mod RoundingLemmas
+pub mod ScanLemmas
 pub mod SizeLemmas
 pub mod SpaceLemmas
 pub mod SpellingLemmas

@@ -1,5 +1,6 @@
 -- The least place of a byte that ends a run.
-use Rattle.std.specs.Prelude.{◌≡◌, ℕ, ◌<◌, ◌≤◌, List, length, Bool, true, false, ◌||◌, ◌==◌, nat_lt, slice_index}
+use Rattle.std.specs.Prelude.{◌≡◌, ℕ, ◌<◌, ◌≤◌, List, length, Bool, true, false, ◌||◌, ◌==◌, nat_lt, slice_index, if◌then◌else◌}
+use Rattle.std.specs.Int.{w64, trailing_zeros}
 
 -- in a JSON string: a quote, a backslash or a control byte (RFC 8259, section 7)
 abbrev pub is_json_special : ℕ → Bool
@@ -16,3 +17,7 @@ pub record IsFirst (test : ℕ → Bool) (bytes : List ℕ) (from place : ℕ) :
   pub within : place ≤ length bytes
   pub before : (k : ℕ) → from ≤ k → k < place → test (slice_index bytes k) ≡ false
   pub here : place < length bytes → test (slice_index bytes place) ≡ true
+
+-- the place of the lowest bit that is set, or the length of the block
+abbrev pub first_set : ℕ → ℕ → ℕ
+first_set mask n = if mask == 0 then n else trailing_zeros w64 mask

@@ -17,13 +17,33 @@ fn text_keeps_its_bytes(rt: HostRuntime) -> Result<(), Fail> {
 }
 
 #[test]
-fn scans_find_the_first_special_byte(rt: HostRuntime) {
-    assert_eq!(rt; first_json_special(b"plain \"", 0), 6);
-    assert_eq!(rt; first_json_special(b"a\x1fb\"", 0), 1);
-    assert_eq!(rt; first_json_special(b"a\\b", 2), 3);
-    assert_eq!(rt; first_name_special(b"title?", 0), 5);
-    assert_eq!(rt; first_name_special(b"a\x7f", 0), 1);
-    assert_eq!(rt; first_name_special(b"plain", 5), 5);
+fn json_scan_finds_each_place(rt: HostRuntime) {
+    let mut text = [b'a'; 130];
+    for end in 0..131 {
+        assert_eq!(rt; first_json_special(&text[..end], 0), end);
+        for at in 0..end {
+            text[at] = b'"';
+            assert_eq!(rt; first_json_special(&text[..end], 0), at, "of {end}");
+            assert_eq!(rt; first_json_special(&text[..end], at), at, "of {end}");
+            text[at] = b'a';
+        }
+    }
+    assert_eq!(rt; json_special_32(b"a tab, or a quote\t are special \""), 17);
+}
+
+#[test]
+fn name_scan_finds_each_place(rt: HostRuntime) {
+    let mut text = [b'a'; 130];
+    for end in 0..131 {
+        assert_eq!(rt; first_name_special(&text[..end], 0), end);
+        for at in 0..end {
+            text[at] = b'?';
+            assert_eq!(rt; first_name_special(&text[..end], 0), at, "of {end}");
+            assert_eq!(rt; first_name_special(&text[..end], at), at, "of {end}");
+            text[at] = b'a';
+        }
+    }
+    assert_eq!(rt; name_special_32(b"a percent sign of 90% is special"), 20);
 }
 
 fn crosses_threads<T: Send + Sync>(_value: &T) {}

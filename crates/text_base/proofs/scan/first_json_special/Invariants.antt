@@ -1,8 +1,11 @@
-use Rattle.std.proofs.Common.{◌≡◌, ◌≤◌, ℕ, ◌<◌}
-use Rattle.std.specs.Prelude.{slice_index, false}
+use Rattle.std.proofs.Common.{◌≤◌, ◌-◌, length}
 use Rattle.text_base.specs.Scan.{is_json_special}
+use Rattle.text_base.proofs.ScanLemmas.{NonePass}
 use Rattle.text_base.proofs.scan.first_json_special.Given as goal
 
 -- no byte before this place passes
-abbrev pub invariant-loop-at : goal.invariant-loop-at
-invariant-loop-at l = (k : ℕ) → l.from ≤ k → k < l.at → is_json_special (slice_index l.bytes k) ≡ false
+abbrev pub invariant-loop-block : goal.invariant-loop-block
+invariant-loop-block l = (l.from ≤ l.at) × (l.at ≤ length l.bytes) × NonePass is_json_special l.bytes l.from l.at
+
+abbrev pub decreases-loop-block : goal.decreases-loop-block
+decreases-loop-block l = length l.bytes - l.at
