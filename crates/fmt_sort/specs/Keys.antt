@@ -1,7 +1,7 @@
 -- The fields that formats are sorted by: their names, and where the value of each comes from.
 use Rattle.std.specs.Prelude.{ℕ, List, [], ◌∷◌, codes, find, Option}
 use Rattle.std.specs.Str.{bytes_eq}
-use Rattle.text_base.specs.declared.num_field.NumField.TheVariants as num
+use Rattle.text_base.specs.declared.fields.NumField.TheVariants as num
 use Rattle.fmt_sort.specs.declared.sort_key.SortKey.{SortKey}
 use Rattle.fmt_sort.specs.declared.sort_key.SortKey.TheVariants.{HasVideo, HasAudio, Preference, Language, Quality, Source, Protocol, VideoCodec, AudioCodec, VideoExt, AudioExt, DynamicRange, Filesize, FilesizeApprox, Size, Height, Width, Resolution, Fps, Tbr, Vbr, Abr, Asr, Channels, Bitrate, Id}
 use Rattle.fmt_sort.specs.declared.kind.Kind.{Kind}

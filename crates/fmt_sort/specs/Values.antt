@@ -5,9 +5,9 @@ use Rattle.std.specs.Int.{int_min}
 use Rattle.std.specs.Ordering.{int_eq}
 use Rattle.text_base.specs.Number.{whole}
 use Rattle.text_base.specs.Arithmetic.{nano_of}
-use Rattle.text_base.specs.declared.num_field.NumField.{NumField}
-use Rattle.text_base.specs.declared.num_field.NumField.TheVariants as num
-use Rattle.text_base.specs.declared.text_field.TextField.TheVariants as text
+use Rattle.text_base.specs.declared.fields.NumField.{NumField}
+use Rattle.text_base.specs.declared.fields.NumField.TheVariants as num
+use Rattle.text_base.specs.declared.fields.TextField.TheVariants as text
 use Rattle.info_item.specs.Item.{Format}
 use Rattle.info_item.specs.Fields.{has_video_of, has_audio_of, number_of_field, text_of_field, ext_of}
 use Rattle.fmt_sort.specs.Rows.{points_of, is_named}

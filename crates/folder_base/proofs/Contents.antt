@@ -3,7 +3,7 @@ use Rattle.std.proofs.Common.{◌≡◌, ◌∙◌, ℕ, Bool, true, false, not,
 use Rattle.std.specs.Prelude.{Result, Option, Some, None, Vec, ◌≢◌, option_and_then, slice_get}
 use Rattle.std.specs.BTreeMap.{BTreeMap}
 use Rattle.std.specs.declared.alloc.Global.{Global}
-use Rattle.text_base.specs.declared.out_of_memory.OutOfMemory.{OutOfMemory}
+use Rattle.text_base.specs.declared.faults.OutOfMemory.{OutOfMemory}
 use Rattle.folder_base.specs.Content.{content_tale, content_owns, ContentSteps, FansOut}
 use Rattle.folder_base.specs.Disk.{Name, Names, Disk}
 use Rattle.folder_base.specs.Line.{LineSteps, line_story, line_part, HandsOut}

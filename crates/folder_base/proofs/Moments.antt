@@ -4,8 +4,8 @@ use Rattle.std.proofs.lemmas.List.{take_at}
 use Rattle.folder_base.specs.Disk.{Disk, Image, May}
 use Rattle.std.specs.Prelude.{Result, Ok, Err}
 use Rattle.folder_base.specs.Story.{Moment, whole, Story, MayEver, MaySince, clock, Next, Through, Does, DoneInPart, DoesSome}
-use Rattle.text_base.specs.declared.folder_fault.FolderFault.{FolderFault}
-use Rattle.text_base.specs.declared.folder_fault.FolderFault.TheVariants.{Failed, OutOfMemory}
+use Rattle.text_base.specs.declared.faults.FolderFault.{FolderFault}
+use Rattle.text_base.specs.declared.faults.FolderFault.TheVariants.{Failed, OutOfMemory}
 
 -- before the first call
 pub begun : (story : Story) (P : Image → Type 0) → ((image : Image) → May story.now image → P image) → Through story story P

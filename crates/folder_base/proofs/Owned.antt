@@ -3,7 +3,7 @@ use Rattle.std.proofs.Common.{◌≡◌, inl, inr, Bool, true, false, List, sym,
 use Rattle.std.specs.Prelude.{Option, Some, None, Result, option_map}
 use Rattle.std.specs.BTreeMap.{BTreeMap}
 use Rattle.std.specs.declared.alloc.Global.{Global}
-use Rattle.text_base.specs.declared.out_of_memory.OutOfMemory.{OutOfMemory}
+use Rattle.text_base.specs.declared.faults.OutOfMemory.{OutOfMemory}
 use Rattle.folder_base.specs.Disk.{Name, File, Names, Disk, put, created, removed, changed, renamed, settled, empty_file}
 use Rattle.folder_base.specs.Files.{names_of}
 use Rattle.folder_base.specs.Log.{told}

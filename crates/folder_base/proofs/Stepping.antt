@@ -3,9 +3,9 @@ use Rattle.std.proofs.Common.{◌≡◌, inl, ℕ, arith, length, take, IsSome, 
 use Rattle.std.specs.Prelude.{Option, Some, None, option_map, Result, bytes_eq, if◌then◌else◌}
 use Rattle.std.specs.BTreeMap.{BTreeMap, get_by_text}
 use Rattle.std.specs.declared.alloc.Global.{Global}
-use Rattle.text_base.specs.declared.out_of_memory.OutOfMemory.{OutOfMemory}
+use Rattle.text_base.specs.declared.faults.OutOfMemory.{OutOfMemory}
 use Rattle.std.proofs.lemmas.List.{take_all}
-use Rattle.text_base.specs.declared.folder_fault.FolderFault.{FolderFault}
+use Rattle.text_base.specs.declared.faults.FolderFault.{FolderFault}
 use Rattle.folder_base.specs.Memory.{Answers}
 use Rattle.folder_base.specs.Disk.{Name, Bytes, Names, Disk, appended, renamed_names, renamed_apart, renamed}
 use Rattle.folder_base.specs.Story.{Story, Next, DoesSome}

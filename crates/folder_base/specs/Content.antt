@@ -1,7 +1,7 @@
 -- What the files and steps of a folder tell.
 use Rattle.std.specs.Prelude.{◌≡◌, ◌≢◌, Bool, List, [], ◌∷◌, ◌++◌, length, map, slice_get, Some, Vec, All, Result, MatchBool, MatchResult}
 use Rattle.std.specs.declared.alloc.Global.{Global}
-use Rattle.text_base.specs.declared.out_of_memory.OutOfMemory.{OutOfMemory}
+use Rattle.text_base.specs.declared.faults.OutOfMemory.{OutOfMemory}
 use Rattle.folder_base.specs.Disk.{Name, Names, Disk}
 use Rattle.folder_base.specs.Line.{line_part, line_tale}
 use Rattle.folder_base.specs.Merge.{IsMerged}

@@ -1,7 +1,7 @@
 -- What a line of steps tells.
 use Rattle.std.specs.Prelude.{◌≡◌, ◌≢◌, Bool, Option, Result, MatchResult, Vec, List, [], map, All}
 use Rattle.std.specs.declared.alloc.Global.{Global}
-use Rattle.text_base.specs.declared.out_of_memory.OutOfMemory.{OutOfMemory}
+use Rattle.text_base.specs.declared.faults.OutOfMemory.{OutOfMemory}
 use Rattle.folder_base.specs.Disk.{Name, Names, Disk}
 use Rattle.folder_base.specs.Files.{names_of}
 use Rattle.folder_base.specs.Lines.{start, owns, part_at}

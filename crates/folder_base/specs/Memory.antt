@@ -2,9 +2,9 @@
 use Rattle.std.specs.Prelude.{◌≡◌, ℕ, ◌+◌, ◌-◌, ◌^◌, ◌≤◌, min, Bool, true, false, IsTrue, List, [], map, sum_by, None, Vec, Result, MatchResult, IsErrOf, Ok, Err}
 use Rattle.std.specs.declared.alloc.Global.{Global}
 use Rattle.text_base.specs.Causes.{Rose}
-use Rattle.text_base.specs.declared.folder_fault.FolderFault.{FolderFault}
-use Rattle.text_base.specs.declared.folder_fault.FolderFault.TheVariants.{Failed, OutOfMemory}
-use Rattle.text_base.specs.declared.out_of_memory.OutOfMemory.{OutOfMemory as NoMemory}
+use Rattle.text_base.specs.declared.faults.FolderFault.{FolderFault}
+use Rattle.text_base.specs.declared.faults.FolderFault.TheVariants.{Failed, OutOfMemory}
+use Rattle.text_base.specs.declared.faults.OutOfMemory.{OutOfMemory as NoMemory}
 use Rattle.folder_base.specs.Disk.{Name, Names}
 use Rattle.folder_base.specs.Story.{Story, World, Fans}
 use Rattle.folder_base.specs.Content.{content_tale}

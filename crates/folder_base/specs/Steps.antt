@@ -3,7 +3,7 @@ use Rattle.std.specs.Prelude.{◌≡◌, Bool, true, List, Result, MatchBool, is
 use Rattle.std.specs.Result.{MatchResult}
 use Rattle.std.specs.BTreeMap.{BTreeMap}
 use Rattle.std.specs.declared.alloc.Global.{Global}
-use Rattle.text_base.specs.declared.out_of_memory.OutOfMemory.{OutOfMemory}
+use Rattle.text_base.specs.declared.faults.OutOfMemory.{OutOfMemory}
 use Rattle.folder_base.specs.Disk.{Name, Names, Disk}
 use Rattle.folder_base.specs.Story.{Story, Next}
 use Rattle.folder_base.specs.Files.{names_of}

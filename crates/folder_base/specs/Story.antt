@@ -2,8 +2,8 @@
 use Rattle.std.specs.Prelude.{◌≡◌, ◌⊎◌, ℕ, ◌-◌, ◌<◌, ◌≤◌, Bool, true, not, ◌&&◌, IsTrue, List, [], ◌∷◌, ◌++◌, length, take, drop, map, Option, Some, None, Result, IsErrOf, IsErr, IsSome, OnOk, ⊤, All}
 use Rattle.std.specs.Option.{option_map_or}
 use Rattle.text_base.specs.Causes.{Rose}
-use Rattle.text_base.specs.declared.folder_fault.FolderFault.{FolderFault}
-use Rattle.text_base.specs.declared.folder_fault.FolderFault.TheVariants.{Failed, OutOfMemory}
+use Rattle.text_base.specs.declared.faults.FolderFault.{FolderFault}
+use Rattle.text_base.specs.declared.faults.FolderFault.TheVariants.{Failed, OutOfMemory}
 use Rattle.folder_base.specs.Disk.{Name, Disk, Image, May}
 use Rattle.folder_base.specs.Parts.{is_part, is_in_some, inside, outside, together, Agree}
 

@@ -1,7 +1,7 @@
 -- What a folder in memory tells of its parts and its story, by what it keeps.
 use Rattle.std.specs.Prelude.{◌≡◌, ℕ, Bool, true, not, ◌&&◌, List, [], ◌∷◌, length, map, Option, Some, None, Result}
 use Rattle.std.specs.Option.{option_map_or}
-use Rattle.text_base.specs.declared.out_of_memory.OutOfMemory.{OutOfMemory}
+use Rattle.text_base.specs.declared.faults.OutOfMemory.{OutOfMemory}
 use Rattle.folder_base.specs.Disk.{Name, Names, Disk}
 use Rattle.folder_base.specs.Lines.{start}
 use Rattle.folder_base.specs.Log.{told, newborn, lasting, left, handed, parts_told, chapter_of, log_story}

@@ -7,9 +7,9 @@ use Rattle.std.specs.Fmt.{signed_decimal}
 use Rattle.std.specs.Str.{chars, str_to_ascii_lowercase, bytes_eq}
 use Rattle.text_base.specs.Number.{Number, whole, decimal}
 use Rattle.text_base.specs.Fields.{num_key}
-use Rattle.text_base.specs.declared.num_field.NumField.{NumField}
-use Rattle.text_base.specs.declared.text_field.TextField.{TextField}
-use Rattle.text_base.specs.declared.text_field.TextField.TheVariants.{Url, Ext, Acodec, Vcodec, Container, Protocol, Language, DynamicRange, FormatId, Format, FormatNote, Resolution}
+use Rattle.text_base.specs.declared.fields.NumField.{NumField}
+use Rattle.text_base.specs.declared.fields.TextField.{TextField}
+use Rattle.text_base.specs.declared.fields.TextField.TheVariants.{Url, Ext, Acodec, Vcodec, Container, Protocol, Language, DynamicRange, FormatId, Format, FormatNote, Resolution}
 use Rattle.info_tree.specs.Tree.{Tree, null, truth, number, text, list, mapping}
 use Rattle.info_tree.specs.Pairs.{member}
 use Rattle.info_item.specs.Item.{Format as Form}

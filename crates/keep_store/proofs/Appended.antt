@@ -2,7 +2,7 @@
 use Rattle.std.proofs.Common.{◌≡◌, ◌⊎◌, inr, ⊎_elim, ℕ, ◌+◌, ◌<◌, ◌^◌, Bool, true, false, IsTrue, [], length, take, refl, sym, ◌∙◌, ap, subst, arith, append_assoc, length-append, string_bytes}
 use Rattle.std.specs.Prelude.{Option, Some, None, IsSome, Result, option_map, unwrap_or, if◌then◌else◌}
 use Rattle.std.proofs.lemmas.Option.{same_Some}
-use Rattle.text_base.specs.declared.folder_fault.FolderFault.{FolderFault}
+use Rattle.text_base.specs.declared.faults.FolderFault.{FolderFault}
 use Rattle.folder_base.specs.declared.store_fault.StoreFault.{StoreFault}
 use Rattle.folder_base.specs.Disk.{Name, Bytes, File, Disk, content, appended, longer}
 use Rattle.folder_base.specs.Story.{World, stands, is_own, Next, DoesSome}

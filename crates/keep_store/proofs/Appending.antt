@@ -2,9 +2,9 @@
 use Rattle.std.proofs.Common.{◌≡◌, ⊎_elim, Bool, false, IsTrue, [], ◌++◌, length, refl, sym, subst}
 use Rattle.std.specs.Prelude.{Option, None, IsSome, Result, Err, IsErrOf}
 use Rattle.std.proofs.lemmas.List.{append-nil}
-use Rattle.text_base.specs.declared.folder_fault.FolderFault.{FolderFault}
-use Rattle.text_base.specs.declared.folder_fault.FolderFault.TheVariants.{Failed, OutOfMemory}
-use Rattle.text_base.specs.declared.folder_call.FolderCall.{FolderCall}
+use Rattle.text_base.specs.declared.faults.FolderFault.{FolderFault}
+use Rattle.text_base.specs.declared.faults.FolderFault.TheVariants.{Failed, OutOfMemory}
+use Rattle.text_base.specs.declared.faults.FolderCall.{FolderCall}
 use Rattle.folder_base.specs.Disk.{Name, Bytes, File, Disk, Image, May, appended}
 use Rattle.folder_base.specs.Story.{World, Story, Next, Causes}
 use Rattle.folder_base.proofs.Images.{same_or_not}

@@ -1,7 +1,7 @@
 -- What a sync and a rename leave.
 use Rattle.std.proofs.Common.{◌⊎◌, inl, inr, ⊎_elim, ◌∙◌, ap, subst}
 use Rattle.std.specs.Prelude.{Result}
-use Rattle.text_base.specs.declared.folder_fault.FolderFault.{FolderFault}
+use Rattle.text_base.specs.declared.faults.FolderFault.{FolderFault}
 use Rattle.folder_base.specs.Disk.{Name, Disk, Image, May, synced, renamed}
 use Rattle.folder_base.specs.Story.{Story, Through, Next, Does}
 use Rattle.folder_base.proofs.Images.{sync_keeps}

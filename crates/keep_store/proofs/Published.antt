@@ -1,7 +1,7 @@
 -- What a crash leaves in each step of `publish`.
 use Rattle.std.proofs.Common.{◌≡◌, inl, inr, ⊎_elim, refl, sym, ◌∙◌, ap, subst}
 use Rattle.std.specs.Prelude.{Option, Some, None, option_map, Result, IsSome}
-use Rattle.text_base.specs.declared.folder_fault.FolderFault.{FolderFault}
+use Rattle.text_base.specs.declared.faults.FolderFault.{FolderFault}
 use Rattle.folder_base.specs.Changes.{IsMoved, Comes}
 use Rattle.folder_base.specs.Disk.{Name, File, Disk, Image, content, MayBe, May, put, firm, synced, renamed, settled}
 use Rattle.folder_base.specs.Story.{Story, Through, Does}

@@ -1,11 +1,11 @@
 -- What a crash leaves while a file is published.
 use Rattle.std.specs.Prelude.{◌≡◌, ◌⊎◌, ◌≤◌, IsTrue, Some, None}
 use Rattle.text_base.specs.Causes.{Rose}
-use Rattle.text_base.specs.declared.folder_fault.FolderFault.{FolderFault}
-use Rattle.text_base.specs.declared.folder_fault.FolderFault.TheVariants.{Failed, OutOfMemory}
+use Rattle.text_base.specs.declared.faults.FolderFault.{FolderFault}
+use Rattle.text_base.specs.declared.faults.FolderFault.TheVariants.{Failed, OutOfMemory}
 use Rattle.folder_base.specs.Disk.{Name, File, Disk, Image, May, content, put, synced, renamed}
 use Rattle.folder_base.specs.Story.{World, Story, Through}
-use Rattle.text_base.specs.declared.folder_call.FolderCall.{FolderCall}
+use Rattle.text_base.specs.declared.faults.FolderCall.{FolderCall}
 use Rattle.folder_base.specs.declared.store_fault.StoreFault.{StoreFault}
 use Rattle.folder_base.specs.declared.store_fault.StoreFault.TheVariants.{Folder, OutOfMemory as NoMemory}
 

@@ -14,7 +14,7 @@ use Rattle.http_reply.specs.declared.judged.Judged.{Judged}
 use Rattle.http_reply.specs.Fields.{Fields, fields_of, fields_at}
 use Rattle.http_reply.specs.Heads.{HeadsEnd, Heads, final}
 use Rattle.http_reply.specs.Verdict.{Verdict, IsVerdict, heads_verdict, refused, judge, judged_verdict, plan_verdict}
-use Rattle.text_base.specs.declared.folder_call.FolderCall.{FolderCall}
+use Rattle.text_base.specs.declared.faults.FolderCall.{FolderCall}
 use Rattle.http_reply.specs.Faults.{Origin, of_asking, of_hearing, of_taking, of_url, of_reply, origin, breaks, replies, is_broken, is_cause, is_heard}
 use Rattle.http_reply.proofs.VerdictLemmas.{verdict_unique}
 use Rattle.link_http.specs.Heads.{GivesHeads}

@@ -5,9 +5,9 @@ use Rattle.std.specs.Option.{option_or}
 use Rattle.std.proofs.lemmas.Bool.{cases_Bool}
 use Rattle.std.proofs.lemmas.List.Elements.{All-nil, All-cons, All-head}
 use Rattle.text_base.specs.Causes.{Rose}
-use Rattle.text_base.specs.declared.folder_fault.FolderFault.{FolderFault}
-use Rattle.text_base.specs.declared.folder_fault.FolderFault.TheVariants as memory
-use Rattle.text_base.specs.declared.folder_call.FolderCall.{FolderCall}
+use Rattle.text_base.specs.declared.faults.FolderFault.{FolderFault}
+use Rattle.text_base.specs.declared.faults.FolderFault.TheVariants as memory
+use Rattle.text_base.specs.declared.faults.FolderCall.{FolderCall}
 use Rattle.folder_base.specs.declared.store_fault.StoreFault.{StoreFault}
 use Rattle.http_reply.specs.declared.piece_fault.PieceFault.{PieceFault}
 use Rattle.http_reply.specs.declared.piece_fault.PieceFault.TheVariants.{Dial, Send, Recv, Status, CutShort, BadHead, HeadLong, NoLength, BadRange, SizeChanged, Encoded, Url, Scheme, Folder, OutOfMemory, PieceLong}

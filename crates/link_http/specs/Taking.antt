@@ -2,7 +2,7 @@
 use Rattle.std.specs.Prelude.{◌≡◌, ◌≢◌, ℕ, ◌⊎◌, Bool, true, not, IsTrue, IsFalse, List, [], ◌++◌, Result, Ok, Err, Option}
 use Rattle.std.specs.Option.{option_or}
 use Rattle.folder_base.specs.Took.{TookSome}
-use Rattle.text_base.specs.declared.folder_call.FolderCall.{FolderCall}
+use Rattle.text_base.specs.declared.faults.FolderCall.{FolderCall}
 use Rattle.folder_base.specs.declared.store_fault.StoreFault.{StoreFault}
 use Rattle.folder_base.specs.declared.store_fault.StoreFault.TheVariants as store
 use Rattle.http_reply.specs.declared.piece_fault.PieceFault.{PieceFault}

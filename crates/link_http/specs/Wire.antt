@@ -2,8 +2,8 @@
 use Rattle.std.specs.Prelude.{◌≡◌, ℕ, ◌<◌, ◌≤◌, Bool, true, false, IsTrue, IsFalse, List, [], ◌∷◌, ◌++◌, length, take, drop, Option, Some, Result, Ok, Err, OnOk, ⊤, unwrap_or, option_map, ◌⊎◌, nat_eq}
 use Rattle.std.specs.List.{ends_with}
 use Rattle.text_base.specs.Causes.{Rose}
-use Rattle.text_base.specs.declared.folder_fault.FolderFault.{FolderFault}
-use Rattle.text_base.specs.declared.folder_fault.FolderFault.TheVariants.{OutOfMemory}
+use Rattle.text_base.specs.declared.faults.FolderFault.{FolderFault}
+use Rattle.text_base.specs.declared.faults.FolderFault.TheVariants.{OutOfMemory}
 use Rattle.http_reply.specs.Truth.{IsHonest}
 use Rattle.link_http.specs.declared.header.Header.{Header}
 use Rattle.link_http.specs.Request.{Address, Place, address, request}

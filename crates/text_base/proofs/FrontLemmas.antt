@@ -3,7 +3,7 @@ use Rattle.std.proofs.Common.{◌≡◌, ◌≤◌, ◌<◌, ◌+◌, ◌-◌, �
 use Rattle.std.proofs.lemmas.List.{drop-take, drop-drop, take-take}
 use Rattle.std.proofs.lemmas.List.Sums.{position_or_len_is, fails_before_first, passes_at_first, prefix_len-le-length}
 use Rattle.std.proofs.lemmas.Bool.Decides.{nat_tests}
-use Rattle.std.proofs.lemmas.Bool.{cases_lt}
+use Rattle.std.proofs.lemmas.Bool.{cases_lt, not-false, not-true}
 use Rattle.std.specs.Prelude.{slice_index}
 use Rattle.text_base.specs.Spelling.{is_digit, digits_length, minus_length, sign_length, int_length, frac_length, exp_length, marked_length, unsigned_length, number_length}
 use Rattle.text_base.specs.Value.{Parts, parts}
@@ -18,21 +18,13 @@ pub digits_length-within : (bs : List ℕ) → digits_length bs ≤ length bs
 unfolding digits_length
 digits_length-within bs = prefix_len-le-length (λ x. not (not (is_digit x))) bs
 
-not_false : (b : Bool) → not b ≡ false → b ≡ true
-not_false true e = refl
-not_false false e = sym e
-
-not_true : (b : Bool) → not b ≡ true → b ≡ false
-not_true true e = sym e
-not_true false e = refl
-
 pub digits_before : (bs : List ℕ) (k : ℕ) → k < digits_length bs → is_digit (get_or bs k 0) ≡ true
 unfolding digits_length
-digits_before bs k l = not_false _ (fails_before_first (λ x. not (is_digit x)) bs k 0 l)
+digits_before bs k l = not-false _ (fails_before_first (λ x. not (is_digit x)) bs k 0 l)
 
 pub no_digit_behind : (bs : List ℕ) → digits_length bs < length bs → is_digit (get_or bs (digits_length bs) 0) ≡ false
 unfolding digits_length
-no_digit_behind bs l = not_true _ (passes_at_first (λ x. not (is_digit x)) bs 0 l)
+no_digit_behind bs l = not-true _ (passes_at_first (λ x. not (is_digit x)) bs 0 l)
 
 -- cutting a text keeps its digits as far as it reaches
 pub digits_length-take : (n : ℕ) (bs : List ℕ) → digits_length (take n bs) ≡ min n (digits_length bs)
@@ -136,7 +128,8 @@ frac_length-within bs = either_within (eqb (get_or bs 0 0) 46) (marked_length 1 
 exp_length-within : (bs : List ℕ) → exp_length bs ≤ length bs
 exp_length-within bs = either_within (eqb (get_or bs 0 0) 101 || eqb (get_or bs 0 0) 69) (marked_length (1 + sign_length (drop 1 bs)) bs) (length bs) (marked_length-within (1 + sign_length (drop 1 bs)) bs)
 
-minus_length-within : (bs : List ℕ) → minus_length bs ≤ length bs
+-- a minus sign at the front is one byte of the text
+pub minus_length-within : (bs : List ℕ) → minus_length bs ≤ length bs
 minus_length-within [] = omega arith
 minus_length-within (x ∷ xs) = grind (arith, nat_tests)
 
@@ -205,7 +198,7 @@ negative_is m w false a b e = grind (arith, nat_tests)
 whole_is : (f x y b c d : ℕ) (whole : Bool) → c ≡ b - f → f ≤ b → d ≡ c - x → x ≤ c → y ≡ x → whole ≡ eqb d b → whole ≡ (eqb f 0 && eqb y 0)
 whole_is f x y b c d whole e1 w1 e2 w2 e3 e = rw e (grind (arith, nat_tests))
 
-minus_length-le : (bs : List ℕ) → minus_length bs ≤ 1
+pub minus_length-le : (bs : List ℕ) → minus_length bs ≤ 1
 minus_length-le bs = grind (arith, nat_tests)
 
 -- the pieces that are cut off one after another, from a text that begins with a number

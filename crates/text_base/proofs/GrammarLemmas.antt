@@ -24,10 +24,11 @@ digits_length-ge ds bs h = elim (cases_lt (digits_length (ds ++ bs)) (length ds)
 ]
 
 -- what follows begins with no digit
-abbrev StopsAt : List ℕ → Type 0
+abbrev pub StopsAt : List ℕ → Type 0
 StopsAt bs = is_digit (get_or bs 0 0) ≡ false
 
-digits_length-stop : (ds bs : List ℕ) → AreDigits ds → StopsAt bs → digits_length (ds ++ bs) ≡ length ds
+-- digits end where what follows begins with no digit
+pub digits_length-stop : (ds bs : List ℕ) → AreDigits ds → StopsAt bs → digits_length (ds ++ bs) ≡ length ds
 digits_length-stop ds bs h e =
     let g = digits_length-ge ds bs h in
     elim (cases_lt (length ds) (digits_length (ds ++ bs))) [

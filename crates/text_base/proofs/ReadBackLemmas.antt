@@ -6,20 +6,20 @@ use Rattle.std.proofs.lemmas.Nat.{pow-add}
 use Rattle.std.proofs.lemmas.Bool.{cases_lt, ne_eqb, le-leb}
 use Rattle.std.proofs.lemmas.Bool.Decides.{nat_tests}
 use Rattle.std.proofs.lemmas.List.{take_at, drop_at, take_all, drop_all, get_or_append_left}
-use Rattle.std.proofs.Math.Seq.{get_or-append_right}
 use Rattle.std.proofs.lemmas.Fmt.{decimal_by_steps, length-decimal-le}
 use Rattle.std.specs.Prelude.{ℤ, pos, negsuc, unsigned_abs}
 use lib.Signed.{mag}
 use Rattle.std.specs.Fmt.{signed_decimal}
 use Rattle.text_base.specs.Number.{whole, decimal}
-use Rattle.text_base.specs.Spelling.{is_digit, digits_length, minus_length, int_length, frac_length, number_length}
+use Rattle.text_base.specs.Spelling.{is_digit, minus_length, int_length, frac_length, number_length}
 use Rattle.text_base.specs.Value.{Parts, parts, digits_value, round_half_even, signed, fits_64, decimal_value, exact_value, number_value}
 use Rattle.text_base.specs.Spelled.{AreDigits}
 use Rattle.text_base.specs.Arithmetic.{is_negative, rounded_decimal}
 use Rattle.text_base.specs.NumberText.{padded, trimmed, text_of}
 use Rattle.text_base.proofs.SpellingLemmas.{not_digit, digits_length-digits, number_exact, exact_whole}
 use Rattle.text_base.proofs.DigitsLemmas.{digits_value-append, counted_on-split}
-use Rattle.text_base.proofs.FrontLemmas.{digits_length_is, Cut, cut_length, cut_parts}
+use Rattle.text_base.proofs.FrontLemmas.{Cut, cut_length, cut_parts}
+use Rattle.text_base.proofs.GrammarLemmas.{StopsAt, digits_length-stop}
 use Rattle.text_base.proofs.PlacesLemmas.{power_positive, AreDigits-append}
 use Rattle.text_base.proofs.TextLemmas.{trimmed_step, digit_below}
 
@@ -59,17 +59,6 @@ Spells-more n ds l s = record {
 decimal_spells : (n : ℕ) → n < 2 ^ 64 → Spells n (signed_decimal (pos n))
 decimal_spells n l = decimal_by_steps (λ n ds. Spells n ds) Spells-one Spells-more n l
 
--- what follows digits is no digit
-abbrev StopsAt : List ℕ → Type 0
-StopsAt bs = is_digit (get_or bs 0 0) ≡ false
-
-digits_length-spelled : (ds bs : List ℕ) → AreDigits ds → StopsAt bs → digits_length (ds ++ bs) ≡ length ds
-digits_length-spelled ds bs h e =
-    let n = length-append ds bs in
-    sym (digits_length_is (ds ++ bs) (length ds) (omega arith)
-    (λ k l. rw (get_or_append_left ds bs 0 k l) (h k l))
-    (λ l. let a : length ds ≤ length ds = omega arith in rw (get_or-append_right ds bs (length ds) 0 a) (let z : length ds - length ds ≡ 0 = omega arith in rw z e)))
-
 either_one : (b : Bool) → ◌≡◌ {A = ℕ} (cond b 1 1) 1
 either_one true = refl
 either_one false = refl
@@ -77,7 +66,7 @@ either_one false = refl
 int_length-spelled : (n : ℕ) (ds bs : List ℕ) → Spells n ds → StopsAt bs → int_length (ds ++ bs) ≡ length ds
 int_length-spelled n ds bs s e =
     let p = s.some_digit in
-    rw (get_or_append_left ds bs 0 0 p) (rw (digits_length-spelled ds bs s.digits e) (by_number (cases_lt 0 n)))
+    rw (get_or_append_left ds bs 0 0 p) (rw (digits_length-stop ds bs s.digits e) (by_number (cases_lt 0 n)))
   where
     by_number : (0 < n) ⊎ (n ≤ 0) → cond (eqb (get_or ds 0 0) 48) 1 (length ds) ≡ length ds
     by_number (inl l) = let h = s.lead l in let f : eqb (get_or ds 0 0) 48 ≡ false = ne_eqb (get_or ds 0 0) 48 (λ z. omega arith) in rw f refl

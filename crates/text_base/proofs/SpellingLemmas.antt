@@ -8,6 +8,7 @@ use Rattle.std.proofs.lemmas.List.Sums.{position_or_len_is}
 use Rattle.std.proofs.lemmas.Bool.Decides.{nat_tests}
 use Rattle.text_base.specs.Number.{whole}
 use Rattle.text_base.specs.Spelling.{is_digit, digits_length, minus_length, int_length, frac_length, exp_length, unsigned_length, number_length}
+use Rattle.text_base.proofs.FrontLemmas.{minus_length-within, minus_length-le}
 use Rattle.text_base.specs.Value.{digits_value, Parts, parts, signed, fits_64, whole_value, exact_value, number_value}
 
 -- every byte is a digit
@@ -88,13 +89,6 @@ eighteen n v k l m =
     let p : 10 ^ k ≤ 10 ^ 18 = pow-le-pow_right (lit< tt) m in
     elim n as (λ n. fits_64 n v ≡ true) [ true ↦ le-leb _ _ (omega arith) | false ↦ le-leb _ _ (omega arith) ]
 
-minus_within : (bs : List ℕ) → minus_length bs ≤ length bs
-minus_within [] = omega arith
-minus_within (x ∷ xs) = grind (arith, nat_tests)
-
-minus_short : (bs : List ℕ) → minus_length bs ≤ 1
-minus_short bs = grind (arith, nat_tests)
-
 whole_alone : (i : ℕ) (ds : List ℕ) → i ≡ length ds → AreDigits ds → (eqb (frac_length (drop i ds)) 0 && eqb (length (drop (frac_length (drop i ds)) (drop i ds))) 0) ≡ true
 whole_alone i ds e h =
     let n : length (drop i ds) ≡ 0 = simp length-drop (omega arith) in
@@ -110,7 +104,7 @@ int_is_all : (s : List ℕ) → number_length s ≡ length s → AreDigits (drop
 unfolding number_length
 int_is_all s e h =
     sym (unsigned_length-digits (drop (minus_length s) s) h) ∙
-    behind_minus (minus_length s) (unsigned_length (drop (minus_length s) s)) (length (drop (minus_length s) s)) (length s) (length-drop (minus_length s) s) (minus_within s) e
+    behind_minus (minus_length s) (unsigned_length (drop (minus_length s) s)) (length (drop (minus_length s) s)) (length s) (length-drop (minus_length s) s) (minus_length-within s) e
 
 parts_are_whole : (s : List ℕ) → int_length (drop (minus_length s) s) ≡ length (drop (minus_length s) s) → AreDigits (drop (minus_length s) s) → (parts s).is_whole ≡ true
 unfolding parts
@@ -136,8 +130,8 @@ number_exact s l = rw (le-leb (length s) 64 l) refl
 pub short_number_value : (spelling : List ℕ) → number_length spelling ≡ length spelling → AreDigits (drop (minus_length spelling) spelling) → length (drop (minus_length spelling) spelling) ≤ 18 → number_value spelling ≡ Some (whole (signed (minus_length spelling == 1) (digits_value (drop (minus_length spelling) spelling))))
 short_number_value s e h l =
     let i = int_is_all s e h in
-    let b = minus_within s in
-    let one : minus_length s ≤ 1 = minus_short s in
+    let b = minus_length-within s in
+    let one : minus_length s ≤ 1 = minus_length-le s in
     let n : length (drop (minus_length s) s) ≡ length s - minus_length s = length-drop (minus_length s) s in
     number_exact s (omega arith) ∙
     exact_whole s (minus_length s == 1) (drop (minus_length s) s) (parts_are_whole s i h) (parts_is_negative s) (parts_int s i)

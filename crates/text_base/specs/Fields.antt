@@ -1,9 +1,9 @@
 -- The keys of an information file that formats are asked for, as their bytes.
 use Rattle.std.specs.Prelude.{ℕ, List, codes}
-use Rattle.text_base.specs.declared.num_field.NumField.{NumField}
-use Rattle.text_base.specs.declared.num_field.NumField.TheVariants.{Filesize, FilesizeApprox, Width, Height, AspectRatio, Tbr, Abr, Vbr, Asr, Fps, AudioChannels, StretchedRatio, Preference, LanguagePreference, Quality, SourcePreference}
-use Rattle.text_base.specs.declared.text_field.TextField.{TextField}
-use Rattle.text_base.specs.declared.text_field.TextField.TheVariants.{Url, Ext, Acodec, Vcodec, Container, Protocol, Language, DynamicRange, FormatId, Format, FormatNote, Resolution}
+use Rattle.text_base.specs.declared.fields.NumField.{NumField}
+use Rattle.text_base.specs.declared.fields.NumField.TheVariants.{Filesize, FilesizeApprox, Width, Height, AspectRatio, Tbr, Abr, Vbr, Asr, Fps, AudioChannels, StretchedRatio, Preference, LanguagePreference, Quality, SourcePreference}
+use Rattle.text_base.specs.declared.fields.TextField.{TextField}
+use Rattle.text_base.specs.declared.fields.TextField.TheVariants.{Url, Ext, Acodec, Vcodec, Container, Protocol, Language, DynamicRange, FormatId, Format, FormatNote, Resolution}
 
 -- the key of a field of numbers
 abbrev pub num_key : NumField → List ℕ

@@ -7,10 +7,11 @@ use Rattle.text_base.specs.Spelling.{digits_length}
 use Rattle.text_base.specs.Value.{digits_value}
 use Rattle.text_base.specs.Arithmetic.{whole_in_range, decimal_in_range}
 
--- the digits at the front of a text, and what stands behind them
+-- the digits at the front of a text
 abbrev pub digits_front : List ℕ → List ℕ
 digits_front bs = take (digits_length bs) bs
 
+-- what stands behind the digits at the front of a text
 abbrev pub digits_behind : List ℕ → List ℕ
 digits_behind bs = drop (digits_length bs) bs
 

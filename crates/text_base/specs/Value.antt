@@ -35,10 +35,11 @@ parts spelling =
       is_whole = (frac == 0) && (length from_exp == 0);
     }
 
--- The exact value, without its sign, is numerator / denominator times 10^-9.
+-- the upper part of the exact value: without its sign, that is numerator / denominator times 10^-9
 abbrev pub numerator : Parts → ℕ
 numerator p = digits_value (p.int ++ p.frac) * 10 ^ (9 + (if p.exponent_is_negative then 0 else digits_value p.exponent))
 
+-- the lower part of the exact value
 abbrev pub denominator : Parts → ℕ
 denominator p = 10 ^ (length p.frac + (if p.exponent_is_negative then digits_value p.exponent else 0))
 

@@ -2,7 +2,7 @@ ghost use Rattle.std.specs.Prelude.{◌≡◌, IfOk};
 ghost use Rattle.std.specs.String.{string_bytes};
 ghost use Rattle.text_base.specs.Kept.{kept_bytes};
 
-use crate::out_of_memory::OutOfMemory;
+use crate::faults::OutOfMemory;
 use arrayvec::ArrayString;
 use std::alloc::Global;
 

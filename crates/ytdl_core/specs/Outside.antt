@@ -1,8 +1,8 @@
 -- What the objects that are handed in tell, and what their calls do to it.
 use Rattle.std.specs.Prelude.{◌≡◌, ℕ, ◌≤◌, List, ◌++◌, take, ⊤, Option, None, Some, Result, IsErrOf}
 use Rattle.text_base.specs.Causes.{Rose}
-use Rattle.text_base.specs.declared.folder_fault.FolderFault.{FolderFault}
-use Rattle.text_base.specs.declared.folder_fault.FolderFault.TheVariants.{Failed, OutOfMemory}
+use Rattle.text_base.specs.declared.faults.FolderFault.{FolderFault}
+use Rattle.text_base.specs.declared.faults.FolderFault.TheVariants.{Failed, OutOfMemory}
 
 -- a file by its name and its bytes
 pub record File : Type 0 where

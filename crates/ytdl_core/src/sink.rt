@@ -1,6 +1,6 @@
 ghost use Rattle.std.specs.Prelude.{◌≡◌, ◌≢◌, ℕ, List, Bool, true, Option, Err, OnOk, OnErr};
 ghost use Rattle.std.specs.Io.KnownBytes.{Appends};
-ghost use Rattle.text_base.specs.declared.folder_fault.FolderFault.TheVariants.{Failed};
+ghost use Rattle.text_base.specs.declared.faults.FolderFault.TheVariants.{Failed};
 ghost use Rattle.ytdl_core.specs.Outside.{AppendsFront, HasCauses};
 
 use text_base::FolderFault;

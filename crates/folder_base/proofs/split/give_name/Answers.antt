@@ -1,6 +1,6 @@
 use Rattle.std.proofs.Common.{◌≡◌, ◌∙◌, ◌<◌, ◌≤◌, ap, sym, length, arith, Ok, Err}
 use Rattle.std.specs.Prelude.{Result, OnOk, Some, slice_get}
-use Rattle.text_base.specs.declared.out_of_memory.OutOfMemory.{OutOfMemory}
+use Rattle.text_base.specs.declared.faults.OutOfMemory.{OutOfMemory}
 use Rattle.std.proofs.lemmas.Option.{slice_get-get_or, slice_get_within}
 use Rattle.folder_base.specs.Files.{names_of}
 use Rattle.folder_base.specs.Merge.{Files}

@@ -1,6 +1,6 @@
 use Rattle.std.proofs.Common.{◌≡◌, ◌∙◌, sym, ap, subst, false, Ok, Err}
 use Rattle.std.specs.Prelude.{Result, OnOk, is_err}
-use Rattle.text_base.specs.declared.out_of_memory.OutOfMemory.{OutOfMemory}
+use Rattle.text_base.specs.declared.faults.OutOfMemory.{OutOfMemory}
 use Rattle.folder_base.specs.Content.{content_tale}
 use Rattle.folder_base.specs.Disk.{Names}
 use Rattle.folder_base.specs.Names.{Lists}
