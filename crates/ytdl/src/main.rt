@@ -4,51 +4,71 @@
 mod info_file;
 mod opener;
 mod output;
-#[cfg(test)]
-mod socket_tests;
 mod system_opener;
-mod tcp_dialer;
 #[cfg(test)]
 mod tests;
 
-ghost use Rattle.std.specs.Prelude.{◌≡◌, IfSome, drop, map, string_bytes};
+ghost use Rattle.std.specs.Prelude.{◌≡◌, IfOk, drop, map, string_bytes};
+ghost use Rattle.std.specs.Vec.Iter.{into_iter_items};
 
 use info_file::InfoFile;
 use output::Output;
 use std::alloc::Global;
-use std::env;
+use std::env::{self, Args};
+use std::io::ErrorKind;
 use std::process::ExitCode;
 use system_opener::SystemOpener;
-use text_base::Text;
-use ytdl_core::{run, status};
+use text_base::{OutOfMemory, Text};
+use ytdl_core::{RunFault, run, status};
 
 /// The status of words that are not UTF-8.
 const BAD_WORDS: u8 = 2;
 
-/// The words of the command line behind the program's name, where they are UTF-8.
-fn words(rt: &HostRuntime, alloc: Global) -> Option<Vec<Text>> {
-    let args = env::args(rt).ok()?.collect(alloc).ok()?;
-    texts_behind(alloc, args)
+/// Why the system gave no words.
+enum ArgumentsFault {
+    NotUtf8,
+    OutOfMemory,
+}
+
+impl From<OutOfMemory> for ArgumentsFault {
+    fn from(_: OutOfMemory) -> Self {
+        ArgumentsFault::OutOfMemory
+    }
+}
+
+/// The words of the command line behind the program's name.
+fn arguments(rt: &HostRuntime, alloc: Global) -> Result<Vec<Text>, ArgumentsFault> {
+    match env::args(rt) {
+        Ok(args) => Ok(texts_behind(alloc, args)?),
+        Err(fault) if fault.kind() == ErrorKind::OutOfMemory => Err(ArgumentsFault::OutOfMemory),
+        Err(_) => Err(ArgumentsFault::NotUtf8),
+    }
 }
 
 /// All texts but the first.
-fn texts_behind(alloc: Global, all: Vec<String>) -> Option<Vec<Text>>
-    ensures { IfSome result (λ texts. texts.items ≡ drop 1 (map string_bytes all.items)) }
+fn texts_behind(alloc: Global, all: Args) -> Result<Vec<Text>, OutOfMemory>
+    ensures { IfOk result (λ texts. texts.items ≡ drop 1 (map string_bytes (into_iter_items all))) }
 {
     let mut texts = Vec::new(alloc);
-    let mut all = all.into_iter();
+    let mut all = all;
     let _first = all.next();
     for text in all {
-        texts.push(Text::from(text)).ok()?;
+        texts.push(Text::from(text))?;
     }
-    Some(texts)
+    Ok(texts)
 }
 
 fn main(rt: HostRuntime) -> ExitCode {
     let alloc = rt.alloc();
-    let Some(words) = words(&rt, alloc) else {
-        let _ = eprintln!(rt; "ERROR: a word of the command line is not UTF-8");
-        return ExitCode::from(BAD_WORDS);
+    let words = match arguments(&rt, alloc) {
+        Ok(words) => words,
+        Err(ArgumentsFault::NotUtf8) => {
+            let _ = eprintln!(rt; "ERROR: a word of the command line is not UTF-8");
+            return ExitCode::from(BAD_WORDS);
+        }
+        Err(ArgumentsFault::OutOfMemory) => {
+            return ExitCode::from(status(&Err(RunFault::OutOfMemory)));
+        }
     };
     let mut info = InfoFile::new(SystemOpener { rt: &rt });
     let mut out = Output::new(rt.stdout());

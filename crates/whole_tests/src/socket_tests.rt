@@ -3,7 +3,7 @@ ghost use Rattle.std.specs.Prelude.{◌≡◌, ◌<◌, ◌≤◌, false, length
 ghost use Rattle.folder_base.specs.Story.{IsWhole};
 ghost use Rattle.keep_store.specs.Seen.{lane_seen};
 
-use crate::tcp_dialer::TcpDialer;
+
 use file_server::serve;
 use folder_base::{Folder, FolderMem};
 use keep_store::Lane;
@@ -12,6 +12,7 @@ use std::alloc::Global;
 use std::net::TcpListener;
 use std::test::Fail;
 use std::{fs, thread};
+use tcp_dialer::TcpDialer;
 use text_base::{FolderFault, Text};
 
 /// The bytes of the served file.

@@ -1,8 +1,8 @@
 -- What a dialer over sockets tells. S is the type of its network's streams, and L that of its listeners.
 use Rattle.std.specs.Prelude.{ℕ, List, Option, option_and_then, is_some}
 use Rattle.link_http.specs.Wire.{Wire}
-use Rattle.ytdl.specs.Silent.{silent}
-use Rattle.ytdl.specs.declared.tcp_dialer.TcpDialer.{TcpDialer}
+use Rattle.tcp_dialer.specs.Silent.{silent}
+use Rattle.tcp_dialer.specs.declared.dialer.TcpDialer.{TcpDialer}
 
 -- its count, and whether a connection stands
 abbrev pub wire_of : {N S L : Type 0} → TcpDialer N S L → Wire

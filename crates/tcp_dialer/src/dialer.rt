@@ -2,8 +2,8 @@ ghost use Rattle.std.specs.Prelude.{◌≡◌, ◌<◌, ◌≤◌, ◌++◌, ℕ
 ghost use Rattle.std.specs.Io.KnownBytes.{ReadConsumes, WriteAppends};
 ghost use Rattle.std.specs.List.{starts_with};
 ghost use Rattle.link_http.specs.Wire.{AsksNothing, Counts, Hears, Sends};
-ghost use Rattle.ytdl.specs.Silent.{silent};
-ghost use Rattle.ytdl.specs.Stream.{told_by, wire_of};
+ghost use Rattle.tcp_dialer.specs.Silent.{silent};
+ghost use Rattle.tcp_dialer.specs.Stream.{told_by, wire_of};
 
 use link_http::Dialer;
 use std::io::{self, ErrorKind, Read, Write};
