@@ -1,5 +1,5 @@
 -- Faults of sinks over several calls.
-use Rattle.std.proofs.Common.{◌≡◌, ℕ, ◌≤◌, Bool, true, arith}
+use Rattle.std.proofs.Common.{◌≡◌, ◌∙◌, ℕ, ◌≤◌, Bool, true, arith}
 use Rattle.std.specs.Prelude.{Result, Ok, Err, IsErrOf}
 use Rattle.text_base.specs.Causes.{Rose}
 use Rattle.ytdl_core.specs.declared.run_fault.Which.{Which}
@@ -16,10 +16,12 @@ rose_until before now after less rose = omega (arith, less, rose)
 
 -- a call that fails by a sink, after others that did not
 pub sink_fails_since : {T : Type 0} (which : Which) (steady steady_now : Bool) (before now after : ℕ) (result : Result T RunFault) →
-    before ≤ now → (steady ≡ true → steady_now ≡ true) → SinkFails which steady_now now after result →
+    now ≡ before → (steady ≡ true → steady_now ≡ true) → SinkFails which steady_now now after result →
     SinkFails which steady before after result
-sink_fails_since which steady steady_now before now after result less stays fails = record {
-  later = omega (arith, less, fails.later);
-  rose = λ h. rose_since before now after less (fails.rose h);
+sink_fails_since which steady steady_now before now after result same stays fails = record {
+  later = omega (arith, same, fails.later);
+  rose = λ h. omega (arith, same, fails.rose h);
+  kept = λ h. fails.kept h ∙ same;
+  kept_memory = λ h. fails.kept_memory h ∙ same;
   steady = λ h s. fails.steady h (stays s);
 }

@@ -1,5 +1,5 @@
 -- What the top call answers, and what it leaves in the sinks.
-use Rattle.std.specs.Prelude.{◌≡◌, ◌≢◌, ◌⊎◌, ℕ, ◌+◌, ◌≤◌, List, [], drop, Bool, true, Option, Some, IfSome, Result, Ok, Err, IfErr, IsErrOf}
+use Rattle.std.specs.Prelude.{◌≡◌, ◌≢◌, ◌⊎◌, ℕ, ◌+◌, ◌≤◌, List, [], drop, Bool, true, Option, Some, IfSome, Result, Ok, Err, IfErr, IsErrOf, IsOk}
 use Rattle.std.specs.Io.KnownBytes.{Appends}
 use Rattle.text_base.specs.Causes.{Rose}
 use Rattle.info_tree.specs.Tree.{Tree as Plain}
@@ -137,17 +137,20 @@ IsRead told left (Err InfoRead) = Unit {0}
 IsRead told left (Err (Write which)) = IfSome told (λ file. left ≡ Some [])
 IsRead told left (Err OutOfMemory) = Unit {0}
 
--- The source is said to have failed only where it has, and a steady one only where it does not hold the file that the words name.
+-- The source is said to have failed exactly where it has, and a steady one only where it does not hold the file that the words name.
 pub record SourceFails (words : List (List ℕ)) (told : Option File) (is_steady : Bool) (faults faults_now : ℕ) (result : Result Report RunFault) : Type 0 where
   pub later : faults ≤ faults_now
   pub rose : IsErrOf result InfoRead → Rose faults faults_now
+  pub kept : result ≢ Err InfoRead → faults_now ≡ faults
   pub steady : IsErrOf result InfoRead → is_steady ≡ true →
       (options : Options) → Asks words options → IfSome told (λ file. file.name ≢ options.info)
 
--- A sink is said to have failed only where it has, and a steady one never.
+-- A sink is said to have failed only where it has, and a steady one never. A report, and want of memory, come only where it has not.
 pub record SinkFails {T : Type 0} (which : Which) (is_steady : Bool) (faults faults_now : ℕ) (result : Result T RunFault) : Type 0 where
   pub later : faults ≤ faults_now
   pub rose : IsErrOf result (Write which) → Rose faults faults_now
+  pub kept : IsOk result → faults_now ≡ faults
+  pub kept_memory : result ≡ Err OutOfMemory → faults_now ≡ faults
   pub steady : IsErrOf result (Write which) → is_steady ≡ true → ⊥
 
 -- a sink failed, or memory ran out

@@ -1,4 +1,4 @@
-ghost use Rattle.std.specs.Prelude.{◌≡◌, ◌↔◌, ◌≤◌, ℕ, false, Err, IfOk, IfErr};
+ghost use Rattle.std.specs.Prelude.{◌≡◌, ◌↔◌, ◌≤◌, ℕ, [], false, Err, IfOk, IfErr};
 ghost use Rattle.ytdl_core.specs.declared.run_fault.Which.TheVariants as which;
 ghost use Rattle.info_tree.specs.Plain.{plain};
 ghost use Rattle.ytdl_core.specs.Lines.{fault_line, TellsLine};
@@ -67,6 +67,7 @@ pub fn run<I: InfoSource, O: Sink, E: Sink>(
 fn tell<E: Sink>(fault: RunFault, err: &mut E)
     ensures line { TellsLine (fault_line fault) (E.written err.old) (E.written err.new)
         (E.faults err.old) (E.faults err.new) (E.refusals err.old) (E.refusals err.new) }
+    ensures silent { fault_line fault ≡ [] → err.new ≡ err.old }
 {
     let line = fault_line(fault);
     if !line.is_empty() {

@@ -1,4 +1,4 @@
-ghost use Rattle.std.specs.Prelude.{◌≡◌, ◌≢◌, ◌+◌, ◌≤◌, ℕ, List, take, drop, length, true, false, IfOk, IfErr, IfSome, IsErrOf, OnOk, Some};
+ghost use Rattle.std.specs.Prelude.{◌≡◌, ◌≢◌, ◌+◌, ◌≤◌, ℕ, List, take, drop, length, true, false, IfOk, IfErr, IfSome, IsErrOf, OnOk, Some, Err};
 ghost use Rattle.ytdl_core.specs.declared.run_fault.RunFault.TheVariants as fault;
 ghost use Rattle.ytdl_core.specs.Reading.{limit, IsReadFault};
 
@@ -20,6 +20,7 @@ pub fn read_file<I: InfoSource>(
     ensures bytes { IfOk result (λ bytes. IfSome (I.file info.old) (λ file.
         (bytes.items ≡ take limit file.bytes) × (I.left info.new ≡ Some (drop limit file.bytes)))) }
     ensures later { I.faults info.old ≤ I.faults info.new }
+    ensures kept { result ≢ Err fault.InfoRead → I.faults info.new ≡ I.faults info.old }
     ensures fault { IfErr result (IsReadFault (I.faults info.old) (I.faults info.new)) }
     ensures steady { IsErrOf result fault.InfoRead → I.is_steady info.old ≡ true →
         IfSome (I.file info.old) (λ file. file.name ≢ name.now) }
@@ -36,6 +37,7 @@ fn read_open<I: InfoSource>(alloc: Global, info: &mut I) -> Result<Vec<u8>, RunF
     ensures bytes { IfOk result (λ bytes. IfSome (I.left info.old) (λ left.
         (bytes.items ≡ take limit left) × (I.left info.new ≡ Some (drop limit left)))) }
     ensures later { I.faults info.old ≤ I.faults info.new }
+    ensures kept { result ≢ Err fault.InfoRead → I.faults info.new ≡ I.faults info.old }
     ensures fault { IfErr result (IsReadFault (I.faults info.old) (I.faults info.new)) }
     ensures steady { IsErrOf result fault.InfoRead → I.is_steady info.old ≡ true → ⊥ }
 {

@@ -9,7 +9,7 @@ invariant-reads g l = record {
   bytes : Consumes (g.I.InfoSource.left l.fn.info) (g.I.InfoSource.left l.info) l.bytes.items;
   most : length l.bytes.items ≤ 67108865;
   steady : g.I.InfoSource.is_steady l.fn.info ≡ true → g.I.InfoSource.is_steady l.info ≡ true;
-  later : g.I.InfoSource.faults l.fn.info ≤ g.I.InfoSource.faults l.info;
+  kept : g.I.InfoSource.faults l.info ≡ g.I.InfoSource.faults l.fn.info;
   room : length l.buffer ≡ 65536;
 }
 

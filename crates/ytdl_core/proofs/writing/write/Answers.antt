@@ -1,4 +1,4 @@
-use Rattle.std.proofs.Common.{◌≡◌, ◌≤◌, take, drop, ◌+◌, ◌++◌, arith}
+use Rattle.std.proofs.Common.{◌≡◌, ◌≤◌, ◌∙◌, take, drop, ◌+◌, ◌++◌, arith}
 use Rattle.std.specs.Prelude.{Err, true}
 use Rattle.std.proofs.lemmas.Result.{err_from_is_err_and}
 use Rattle.std.specs.String.{string_bytes}
@@ -21,8 +21,8 @@ loop-piece-preserved g c =
           (sends_more (script_of (take k pieces)) (all_to piece.which (string_bytes piece.bytes))
           (g.O.Sink.written c.args.out.now) (g.O.Sink.written c.loop-piece.out) (g.O.Sink.written c.put.new.out)
           (g.E.Sink.written c.args.err.now) (g.E.Sink.written c.loop-piece.err) (g.E.Sink.written c.put.new.err) i.sends h.whole);
-      later_out = omega (arith, i.later_out, h.out.later);
-      later_err = omega (arith, i.later_err, h.err.later);
+      kept_out = h.out.kept tt ∙ i.kept_out;
+      kept_err = h.err.kept tt ∙ i.kept_err;
       later_memory = omega (arith, i.later_memory, h.later);
       stays_out = λ s. h.stays_out (i.stays_out s);
       stays_err = λ s. h.stays_err (i.stays_err s);
@@ -49,7 +49,7 @@ returns-in_err-put-clause-out g c =
     rw (e.1, e.2)
     (sink_fails_since which.Out (g.O.Sink.is_steady c.args.out.now) (g.O.Sink.is_steady c.loop-piece.out)
     (g.O.Sink.faults c.args.out.now) (g.O.Sink.faults c.loop-piece.out) (g.O.Sink.faults c.put.new.out) (Err c.in_err-put.field-0.0)
-    c.loop-piece.invariant.later_out c.loop-piece.invariant.stays_out c.in_err-put.ensures.out)
+    c.loop-piece.invariant.kept_out c.loop-piece.invariant.stays_out c.in_err-put.ensures.out)
 
 pub returns-in_err-put-clause-err : goal.returns-in_err-put-clause-err
 returns-in_err-put-clause-err g c =
@@ -57,7 +57,7 @@ returns-in_err-put-clause-err g c =
     rw (e.1, e.2)
     (sink_fails_since which.Err (g.E.Sink.is_steady c.args.err.now) (g.E.Sink.is_steady c.loop-piece.err)
     (g.E.Sink.faults c.args.err.now) (g.E.Sink.faults c.loop-piece.err) (g.E.Sink.faults c.put.new.err) (Err c.in_err-put.field-0.0)
-    c.loop-piece.invariant.later_err c.loop-piece.invariant.stays_err c.in_err-put.ensures.err)
+    c.loop-piece.invariant.kept_err c.loop-piece.invariant.stays_err c.in_err-put.ensures.err)
 
 pub returns-in_err-put-clause-later : goal.returns-in_err-put-clause-later
 returns-in_err-put-clause-later g c = omega (arith, c.loop-piece.invariant.later_memory, c.in_err-put.ensures.later)

@@ -8,8 +8,8 @@ abbrev pub invariant-loop-piece : goal.invariant-loop-piece
 invariant-loop-piece g l = record {
   sends : Sends (script_of (take l.piece-index l.pieces)) (g.O.Sink.written l.fn.out) (g.O.Sink.written l.out)
       (g.E.Sink.written l.fn.err) (g.E.Sink.written l.err);
-  later_out : g.O.Sink.faults l.fn.out ≤ g.O.Sink.faults l.out;
-  later_err : g.E.Sink.faults l.fn.err ≤ g.E.Sink.faults l.err;
+  kept_out : g.O.Sink.faults l.out ≡ g.O.Sink.faults l.fn.out;
+  kept_err : g.E.Sink.faults l.err ≡ g.E.Sink.faults l.fn.err;
   later_memory : g.E.Sink.refusals l.fn.err ≤ g.E.Sink.refusals l.err;
   stays_out : g.O.Sink.is_steady l.fn.out ≡ true → g.O.Sink.is_steady l.out ≡ true;
   stays_err : g.E.Sink.is_steady l.fn.err ≡ true → g.E.Sink.is_steady l.err ≡ true;
