@@ -2,7 +2,7 @@ ghost use Rattle.std.specs.Prelude.{◌≡◌, false, is_some, option_and_then};
 
 use crate::opener::Opener;
 use std::io::Read;
-use text_base::Failed;
+use text_base::{Failed, FaultCount};
 use ytdl_core::InfoSource;
 
 /// A file of information behind an opener: it tells what the opener and its reader tell.
@@ -10,7 +10,7 @@ use ytdl_core::InfoSource;
 pub struct InfoFile<O: Opener + Drop> {
     opener: O,
     reader: Option<O::Reader>,
-    faults: u64,
+    faults: FaultCount,
 }
 
 impl<O: Opener + Drop> InfoFile<O> {
@@ -23,7 +23,7 @@ impl<O: Opener + Drop> InfoFile<O> {
         InfoFile {
             opener,
             reader: None,
-            faults: 0,
+            faults: FaultCount::new(),
         }
     }
 }
@@ -35,7 +35,7 @@ impl<O: Opener + Drop> InfoSource for InfoFile<O> {
 
     ghost is_open = { λ s. is_some s.reader };
 
-    ghost faults = { λ s. s.faults };
+    ghost faults = { λ s. s.faults.count };
 
     ghost is_steady = { λ s. false };
 
@@ -46,7 +46,7 @@ impl<O: Opener + Drop> InfoSource for InfoFile<O> {
                 Ok(())
             }
             Err(Failed) => {
-                self.faults = self.faults.saturating_add(1);
+                self.faults.rise();
                 Err(Failed)
             }
         }
@@ -59,7 +59,7 @@ impl<O: Opener + Drop> InfoSource for InfoFile<O> {
         match reader.read(buf) {
             Ok(count) => Ok(count),
             Err(_) => {
-                self.faults = self.faults.saturating_add(1);
+                self.faults.rise();
                 Err(Failed)
             }
         }

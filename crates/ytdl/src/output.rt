@@ -1,14 +1,14 @@
 ghost use Rattle.std.specs.Prelude.{◌≡◌, false};
 
 use std::io::{ErrorKind, Write};
-use text_base::FolderFault;
+use text_base::{FaultCount, FolderFault};
 use ytdl_core::Sink;
 
 /// A stream that bytes are written to: it tells what the stream tells.
 #[derive(Drop)]
 pub struct Output<W: Write + Drop> {
     inner: W,
-    faults: u64,
+    faults: FaultCount,
 }
 
 impl<W: Write + Drop> Output<W> {
@@ -16,14 +16,17 @@ impl<W: Write + Drop> Output<W> {
         ensures faults { ⟦<Output<W> as Sink>⟧.faults result ≡ 0 }
         ensures written { ⟦<Output<W> as Sink>⟧.written result ≡ W.contents inner }
     {
-        Output { inner, faults: 0 }
+        Output {
+            inner,
+            faults: FaultCount::new(),
+        }
     }
 }
 
 impl<W: Write + Drop> Sink for Output<W> {
     ghost written = { λ s. W.contents s.inner };
 
-    ghost faults = { λ s. s.faults };
+    ghost faults = { λ s. s.faults.count };
 
     ghost refusals = { λ s. 0 };
 
@@ -42,7 +45,7 @@ impl<W: Write + Drop> Sink for Output<W> {
                 Err(_) => break,
             }
         }
-        self.faults = self.faults.saturating_add(1);
+        self.faults.rise();
         Err(FolderFault::Failed)
     }
 }

@@ -1,27 +1,8 @@
--- What the objects in memory rest on: a plan of no calls, and bytes copied to the front of a buffer.
+-- What the source in memory rests on: bytes copied to the front of a buffer.
 use Rattle.std.proofs.Common.{◌≡◌, ℕ, ◌+◌, ◌≤◌, ◌-◌, ◌*◌, ◌<◌, List, [], ◌∷◌, ◌++◌, Bool, true, false, length, take, drop, min, sym, arith, refl, length-append, length-drop, length-take, All, rules}
 use Rattle.std.proofs.lemmas.List.{take-append-drop, drop-drop}
 use Rattle.std.proofs.Math.ListN.{drop_of_length-le}
 use Rattle.std.proofs.Math.Seq.{take-append_seam, take-length}
-use Rattle.std.proofs.lemmas.Map.Views.{All-set_contains}
-use Rattle.std.proofs.lemmas.Cmp.{nat_cmp_total}
-use Rattle.std.proofs.lemmas.List.Elements.{All-head}
-use Rattle.std.specs.Ordering.{nat_cmp}
-use Rattle.std.specs.BTreeSet.{BTreeSet, contains, IsFromIterResult}
-use Rattle.ytdl_core.specs.Plan.{is_empty}
-
-empty_where_none : (ks : List ℕ) (has : ℕ → Bool) → All (λ k. has k ≡ true) ks → ((q : ℕ) → has q ≡ false) →
-    is_empty ks ≡ true
-empty_where_none [] has all none = refl
-empty_where_none (k ∷ ks) has all none =
-    let is : has k ≡ true = search (rules, All-head) in
-    let is_not : has k ≡ false = none k in
-    cc
-
--- a set of no numbers has no number
-pub none_planned : (set : BTreeSet ℕ) → IsFromIterResult nat_cmp [] set → is_empty set.keys ≡ true
-none_planned set made =
-    empty_where_none set.keys (contains nat_cmp set) (All-set_contains nat_cmp_total set) made.0
 
 read_front : (bytes rest : List ℕ) (at n : ℕ) → n ≤ length (drop at bytes) →
     drop at bytes ≡ take n (take n (drop at bytes) ++ rest) ++ drop (at + n) bytes

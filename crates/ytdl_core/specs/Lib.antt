@@ -11,7 +11,6 @@ pub mod OptionRows
 pub mod OptionTable
 pub mod Outside
 pub mod Pieces
-pub mod Plan
 pub mod Reading
 pub mod Report
 pub mod Run

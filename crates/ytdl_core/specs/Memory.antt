@@ -1,8 +1,8 @@
 -- What the objects in memory hold.
 use Rattle.std.specs.Prelude.{ℕ, List, drop, Bool}
 use Rattle.ytdl_core.specs.Outside.{File}
-use Rattle.ytdl_core.specs.Plan.{plans_none}
-use Rattle.ytdl_core.specs.declared.call_plan.CallPlan.{CallPlan}
+use Rattle.text_base.specs.CallPlan.{never_fails}
+use Rattle.text_base.specs.declared.call_plan.CallPlan.{CallPlan}
 use Rattle.ytdl_core.specs.declared.info_mem.InfoMem.{InfoMem}
 use Rattle.ytdl_core.specs.declared.sink_mem.SinkMem.{SinkMem}
 
@@ -18,26 +18,26 @@ abbrev pub is_source_open : InfoMem → Bool
 is_source_open source = source.is_open
 
 abbrev pub source_faults : InfoMem → ℕ
-source_faults source = source.faults
+source_faults source = source.faults.count
 
 abbrev pub source_plan : InfoMem → CallPlan
 source_plan source = source.plan
 
 abbrev pub is_steady_source : InfoMem → Bool
-is_steady_source source = plans_none source.plan
+is_steady_source source = never_fails source.plan
 
 -- the bytes that a sink took
 abbrev pub written_bytes : SinkMem → List ℕ
 written_bytes sink = sink.bytes.items
 
 abbrev pub sink_faults : SinkMem → ℕ
-sink_faults sink = sink.faults
+sink_faults sink = sink.faults.count
 
 abbrev pub sink_refusals : SinkMem → ℕ
-sink_refusals sink = sink.refusals
+sink_refusals sink = sink.refusals.count
 
 abbrev pub sink_plan : SinkMem → CallPlan
 sink_plan sink = sink.plan
 
 abbrev pub is_steady_sink : SinkMem → Bool
-is_steady_sink sink = plans_none sink.plan
+is_steady_sink sink = never_fails sink.plan

@@ -1,10 +1,9 @@
-ghost use Rattle.std.specs.Prelude.{◌≡◌, ◌≤◌, length, Some, true, false, IfOk};
-ghost use Rattle.ytdl_core.specs.Plan.{Plans};
+ghost use Rattle.std.specs.Prelude.{◌≡◌, ◌≤◌, length, None, Some, true, false, IfOk};
+ghost use Rattle.text_base.specs.CallPlan.{Plans};
 
-use crate::call_plan::CallPlan;
 use crate::source::InfoSource;
 use std::alloc::Global;
-use text_base::{Failed, OutOfMemory, Text};
+use text_base::{CallPlan, Failed, FaultCount, OutOfMemory, Text};
 
 /// A file in memory. Opening another name fails, and so does each call that was planned to.
 #[derive(Drop)]
@@ -14,7 +13,7 @@ pub struct InfoMem {
     at: usize,
     is_open: bool,
     plan: CallPlan,
-    faults: u64,
+    faults: FaultCount,
     ghost inside: { at ≤ length bytes.items },
 }
 
@@ -31,7 +30,7 @@ impl InfoMem {
         ensures file { IfOk result (λ source.
             held_file source ≡ record { name = name.now; bytes = bytes.items }) }
         ensures closed { IfOk result (λ source. is_source_open source ≡ false) }
-        ensures plan { IfOk result (λ source. Plans (source_plan source) fails.items) }
+        ensures plan { IfOk result (λ source. Plans (source_plan source) fails.items None) }
         ensures faults { IfOk result (λ source. source_faults source ≡ 0) }
     {
         Ok(InfoMem {
@@ -39,8 +38,8 @@ impl InfoMem {
             bytes,
             at: 0,
             is_open: false,
-            plan: CallPlan::new(alloc, &fails)?,
-            faults: 0,
+            plan: CallPlan::new(fails, None),
+            faults: FaultCount::new(),
         })
     }
 }
@@ -51,7 +50,7 @@ impl InfoSource for InfoMem {
     ghost use Rattle.std.specs.Io.KnownBytes.{ReadConsumes};
     ghost use Rattle.text_base.specs.Causes.{HasCause};
     ghost use Rattle.ytdl_core.specs.Memory.{held_file, bytes_left, is_source_open, source_faults, source_plan, is_steady_source};
-    ghost use Rattle.ytdl_core.specs.Plan.{Counts};
+    ghost use Rattle.text_base.specs.CallPlan.{Counts};
 
     ghost file = { λ s. Some (held_file s) };
 
@@ -78,7 +77,7 @@ impl InfoSource for InfoMem {
         ensures cause { HasCause (source_faults self.old) (source_faults self.new) result }
     {
         if self.plan.fails_now() || self.name.as_str() != name {
-            self.faults = self.faults.saturating_add(1);
+            self.faults.rise();
             return Err(Failed);
         }
         self.is_open = true;
@@ -97,7 +96,7 @@ impl InfoSource for InfoMem {
         ensures cause { HasCause (source_faults self.old) (source_faults self.new) result }
     {
         if self.plan.fails_now() {
-            self.faults = self.faults.saturating_add(1);
+            self.faults.rise();
             return Err(Failed);
         }
         let left = &self.bytes[self.at..];

@@ -2,7 +2,6 @@
 #![tactic(auto)]
 
 mod best;
-mod call_plan;
 mod choice;
 mod command;
 mod entry;

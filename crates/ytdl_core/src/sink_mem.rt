@@ -1,35 +1,34 @@
-ghost use Rattle.std.specs.Prelude.{◌≡◌, ◌≢◌, ◌++◌, Some, [], true, ⊤, IfOk, IsErrOf, OnOk, OnErr};
+ghost use Rattle.std.specs.Prelude.{◌≡◌, ◌≢◌, ◌++◌, Some, None, [], true, ⊤, IfOk, IsErrOf, OnOk, OnErr};
 ghost use Rattle.ytdl_core.specs.Memory.{written_bytes, sink_faults, sink_refusals, sink_plan, is_steady_sink};
 ghost use Rattle.ytdl_core.specs.Outside.{HasCauses};
-ghost use Rattle.ytdl_core.specs.Plan.{Plans, Counts};
+ghost use Rattle.text_base.specs.CallPlan.{Plans, Counts};
 
-use crate::call_plan::CallPlan;
 use crate::sink::Sink;
 use std::alloc::Global;
-use text_base::{FolderFault, OutOfMemory};
+use text_base::{CallPlan, FaultCount, FolderFault, OutOfMemory};
 
 /// A sink in memory. Each call that was planned to fail fails.
 #[derive(Drop)]
 pub struct SinkMem {
     bytes: Vec<u8>,
     plan: CallPlan,
-    faults: u64,
-    refusals: u64,
+    faults: FaultCount,
+    refusals: FaultCount,
 }
 
 impl SinkMem {
     /// An empty sink. Its calls are numbered from 0, and `fails` lists those that fail.
     pub fn new(alloc: Global, fails: Vec<u64>) -> Result<SinkMem, OutOfMemory>
         ensures empty { IfOk result (λ sink. written_bytes sink ≡ []) }
-        ensures plan { IfOk result (λ sink. Plans (sink_plan sink) fails.items) }
+        ensures plan { IfOk result (λ sink. Plans (sink_plan sink) fails.items None) }
         ensures faults { IfOk result (λ sink. sink_faults sink ≡ 0) }
         ensures refusals { IfOk result (λ sink. sink_refusals sink ≡ 0) }
     {
         Ok(SinkMem {
             bytes: Vec::new(alloc),
-            plan: CallPlan::new(alloc, &fails)?,
-            faults: 0,
-            refusals: 0,
+            plan: CallPlan::new(fails, None),
+            faults: FaultCount::new(),
+            refusals: FaultCount::new(),
         })
     }
 
@@ -60,11 +59,11 @@ impl Sink for SinkMem {
             (sink_refusals self.old) (sink_refusals self.new) result }
     {
         if self.plan.fails_now() {
-            self.faults = self.faults.saturating_add(1);
+            self.faults.rise();
             return Err(FolderFault::Failed);
         }
         if self.bytes.extend_from_slice(bytes).is_err() {
-            self.refusals = self.refusals.saturating_add(1);
+            self.refusals.rise();
             return Err(FolderFault::OutOfMemory);
         }
         Ok(())
