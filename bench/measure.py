@@ -11,6 +11,8 @@ HERE = os.path.dirname(os.path.abspath(__file__))
 ROOT = os.path.dirname(HERE)
 WORK = os.path.join(HERE, "work")
 PROGRAM = os.environ.get("YTDL", os.path.join(ROOT, "ytdl"))
+# another build of the program, as one from before a change, to be measured beside it
+OTHER = os.environ.get("YTDL_OTHER")
 
 # kind: (small, large, words behind the file)
 CASES = {
@@ -63,6 +65,9 @@ def main():
             size = os.path.getsize(path)
             results.append((ours, size))
             line = "%s %d: %.1f MiB, ours %.3f s, peak %.2f of the file" % (kind, number, size / 2**20, ours, peak / size)
+            if OTHER:
+                other, _ = timed([OTHER, "--load-info-json", path, "--print", "filename"] + more)
+                line += ", %.2f of the other build" % (ours / other)
             python, _ = timed([sys.executable, "-c", "import json,sys;info=json.load(open(sys.argv[1],'rb'));" + PYTHON.get(kind, ""), path])
             line += ", %.2f of python3's json%s" % (ours / python, " and its sorted" if kind in PYTHON else "")
             if shutil.which("jq"):
