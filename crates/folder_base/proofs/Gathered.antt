@@ -36,7 +36,8 @@ ever_any (whole disk ∷ past) image (inl h) = inl h
 ever_any (whole disk ∷ past) image (inr h) = inr (ever_any past image h)
 ever_any (apart rest parts ∷ past) image h = inr (ever_any past image h)
 
-part_ever : {P : Image → Type 0} (birth : Disk) (story : Story) → Through (record { now = birth; past = [] }) story P → (image : Image) → MayAny (story.now ∷ disks_of story.past) image → P image
+-- Each moment of a part that was handed out without a past leaves what has P alone.
+pub part_ever : {P : Image → Type 0} (birth : Disk) (story : Story) → Through (record { now = birth; past = [] }) story P → (image : Image) → MayAny (story.now ∷ disks_of story.past) image → P image
 part_ever birth story run image (inl now) = run.each image (inl now)
 part_ever birth story run image (inr past) = run.each image (inr (subst (λ (l : List Moment). MayEver l image) (run.past ∙ append-nil run.more) (ever_any story.past image past)))
 

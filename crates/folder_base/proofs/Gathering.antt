@@ -1,5 +1,5 @@
 -- Parts that come back are those that were handed out.
-use Rattle.std.proofs.Common.{◌≡◌, ◌∙◌, inl, inr, ℕ, Bool, true, false, ◌||◌, List, [], ◌∷◌, ◌++◌, map, length, refl, sym, ap, arith}
+use Rattle.std.proofs.Common.{◌≡◌, ◌∙◌, ◌≤◌, inl, inr, ℕ, Bool, true, false, ◌||◌, List, [], ◌∷◌, ◌++◌, map, length, refl, sym, ap, arith}
 use Rattle.std.specs.Prelude.{Option, Some, None, slice_get, All as EachOne, MatchBool, nat_lt}
 use Rattle.std.specs.List.{list_any}
 use Rattle.std.proofs.lemmas.Bool.Decides.{nat_tests}
@@ -164,7 +164,7 @@ module _ (count : World → ℕ) where
       ap (λ (n : ℕ). nat_lt 0 n || list_any (λ p. nat_lt 0 (count (world_of p))) parts) here ∙ none_counted parts (All-tail (λ (w : World). count w ≡ 0) (world_of part) (map world_of parts) none)
 
   -- A count that rises where that of some part has risen.
-  pub roses_with : (parts : List FolderMem) (old new : World) (flag : Bool) → flag ≡ list_any (λ part. nat_lt 0 (count (world_of part))) parts → MatchBool flag (Rose (count old) (count new)) (count new ≡ count old)
+  pub roses_with : (parts : List FolderMem) (old new : World) (flag : Bool) → flag ≡ list_any (λ part. nat_lt 0 (count (world_of part))) parts → MatchBool flag (Rose (count old) (count new)) (count new ≡ count old) → count old ≤ count new
       → RosesWith count (map world_of parts) old new
-  roses_with parts old new true is rose = record { rose = λ some. rose; stood = λ none. let bad : true ≡ false = is ∙ none_counted parts none in absurd (cc) }
-  roses_with parts old new false is stood = record { rose = λ some. let bad : false ≡ true = is ∙ some_counted parts some in absurd (cc); stood = λ none. stood }
+  roses_with parts old new true is rose later = record { later = later; rose = λ some. rose; stood = λ none. let bad : true ≡ false = is ∙ none_counted parts none in absurd (cc) }
+  roses_with parts old new false is stood later = record { later = later; rose = λ some. let bad : false ≡ true = is ∙ some_counted parts some in absurd (cc); stood = λ none. stood }

@@ -1,5 +1,6 @@
 pub mod Contents
 pub mod Copied
+pub mod Crewed
 pub mod Cutting
 pub mod Disjoint
 pub mod Explaining
@@ -28,5 +29,7 @@ pub mod Splitting
 pub mod Stepping
 pub mod Stopping
 pub mod Storing
+pub mod Synced
 pub mod Telling
+pub mod Together
 pub mod Undoing

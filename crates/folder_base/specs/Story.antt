@@ -91,7 +91,8 @@ pub record IsWhole (world : World) : Type 0 where
 abbrev pub stands : World → Name → Type 0
 stands world name = IsSome (world.story.now.live name)
 
--- What every call keeps, and when it may fail, which takes misuse where the folder is steady.
+-- What every call keeps, and when it may fail, which takes misuse where the folder is steady. Its count of faults stands still
+-- unless it failed.
 pub record Asks {T : Type 0} (proper : Type 0) (old new : World) (result : Result T FolderFault) : Type 0 where
   pub tells : IsTrue new.tells → IsTrue old.tells
   pub still_tells : IsTrue old.tells → IsTrue new.tells
@@ -99,9 +100,11 @@ pub record Asks {T : Type 0} (proper : Type 0) (old new : World) (result : Resul
   pub faults : old.faults ≤ new.faults
   pub refusals : new.refusals ≡ old.refusals
   pub failed : IsErrOf result Failed → Rose old.faults new.faults
+  pub calm : (IsErrOf result Failed → ⊥) → new.faults ≡ old.faults
   pub never : IsTrue old.steady → proper → IsErrOf result Failed → ⊥
 
--- The same of a call that counts its refusals for want of memory, and leaves parts as they are.
+-- The same of a call that counts its refusals for want of memory, and leaves parts as they are. That count stands still unless it
+-- was refused so.
 pub record Causes {T : Type 0} (proper : Type 0) (old new : World) (result : Result T FolderFault) : Type 0 where
   pub tells : IsTrue new.tells → IsTrue old.tells
   pub still_tells : IsTrue old.tells → IsTrue new.tells
@@ -109,7 +112,9 @@ pub record Causes {T : Type 0} (proper : Type 0) (old new : World) (result : Res
   pub faults : old.faults ≤ new.faults
   pub refusals : old.refusals ≤ new.refusals
   pub failed : IsErrOf result Failed → Rose old.faults new.faults
+  pub calm : (IsErrOf result Failed → ⊥) → new.faults ≡ old.faults
   pub refused : IsErrOf result OutOfMemory → Rose old.refusals new.refusals
+  pub fed : (IsErrOf result OutOfMemory → ⊥) → new.refusals ≡ old.refusals
   pub never : IsTrue old.steady → proper → IsErrOf result Failed → ⊥
   pub part : new.part ≡ old.part
   pub out : new.out ≡ old.out
@@ -130,6 +135,7 @@ pub record Reads {T E : Type 0} (proper : Type 0) (old new : World) (result : Re
   pub faults : old.faults ≤ new.faults
   pub refusals : new.refusals ≡ old.refusals
   pub failed : IsErr result → Rose old.faults new.faults
+  pub calm : (IsErr result → ⊥) → new.faults ≡ old.faults
   pub never : IsTrue old.steady → proper → IsErr result → ⊥
   pub same : Same old new
 
@@ -233,8 +239,9 @@ abbrev pub SomeRose : (World → ℕ) → List World → Type 0
 SomeRose count [] = ⊥
 SomeRose count (part ∷ parts) = (0 < count part) ⊎ SomeRose count parts
 
--- A count of the folder rises exactly where that of some part is above 0.
+-- A count of the folder never falls, and rises exactly where that of some part is above 0.
 pub record RosesWith (count : World → ℕ) (parts : List World) (old new : World) : Type 0 where
+  pub later : count old ≤ count new
   pub rose : SomeRose count parts → Rose (count old) (count new)
   pub stood : All (λ part. count part ≡ 0) parts → count new ≡ count old
 

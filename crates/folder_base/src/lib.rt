@@ -46,8 +46,6 @@ pub use text_base::FolderCall;
 #[cfg(test)]
 mod many_parts_tests;
 #[cfg(test)]
-mod part_tests;
-#[cfg(test)]
 mod stop_tests;
 #[cfg(test)]
 mod tests;

@@ -1,5 +1,5 @@
 //! The steps of some of a folder's names, and their files.
-ghost use Rattle.std.specs.Prelude.{◌≡◌, []};
+ghost use Rattle.std.specs.Prelude.{◌≡◌, ◌≢◌, []};
 ghost use Rattle.folder_base.specs.Index.{IsIndex};
 ghost use Rattle.folder_base.specs.Lines.{start, HasOwn};
 ghost use Rattle.folder_base.specs.Logged.{IsSealed};
@@ -107,8 +107,9 @@ impl Line {
         settle_step(&mut self.steps, &mut self.files)
     }
 
-    /// Makes its steps again, where they are those of a whole folder or of a part.
+    /// Makes its steps again.
     pub(crate) fn replay(&self, alloc: Global) -> Result<Replay, OutOfMemory>
+        requires { self.now.side ≢ Rest }
         ensures { IfOk result (λ replay. IsReplayed (line_story self.now).now replay) }
     {
         match &self.side {
@@ -122,7 +123,7 @@ impl Line {
                 make_all(alloc, &mut replay, &self.steps)?;
                 Ok(replay)
             }
-            Side::Rest => Err(OutOfMemory),
+            Side::Rest => unreachable!(),
         }
     }
 

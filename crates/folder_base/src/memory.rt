@@ -26,7 +26,7 @@ pub struct FolderMem {
 }
 
 impl FolderMem {
-    ghost use Rattle.std.specs.Prelude.{true, IsTrue, IsFalse, IfOk, MatchBool, option_map};
+    ghost use Rattle.std.specs.Prelude.{true, IsTrue, IsFalse, IsErrOf, IfOk, MatchBool, option_map};
     ghost use Rattle.folder_base.specs.Disk.{May, content};
     ghost use Rattle.folder_base.specs.Log.{stood};
     ghost use Rattle.folder_base.specs.Stop.{stopped};
@@ -126,6 +126,8 @@ impl FolderMem {
             (self.new.faults ≡ self.old.faults) }
         ensures refusals { MatchBool refused (Rose self.old.refusals self.new.refusals)
             (self.new.refusals ≡ self.old.refusals) }
+        ensures later { self.old.faults ≤ self.new.faults }
+        ensures refused_later { self.old.refusals ≤ self.new.refusals }
     {
         if faulty {
             self.count_fault();
@@ -141,6 +143,10 @@ impl FolderMem {
             { faults = self.new.faults; refusals = self.new.refusals } }
         ensures counts { Answers done result self.old.faults self.new.faults self.old.refusals
             self.new.refusals }
+        ensures calm { (IsErrOf result FolderFault.Failed → ⊥)
+            → self.new.faults ≡ self.old.faults }
+        ensures fed { (IsErrOf result FolderFault.OutOfMemory → ⊥)
+            → self.new.refusals ≡ self.old.refusals }
     {
         match done {
             Ok(true) => Ok(()),

@@ -1,12 +1,11 @@
-ghost use Rattle.std.specs.Prelude.{IfOk, OnOk};
+ghost use Rattle.std.specs.Prelude.{◌≡◌, [], ◌∷◌, IfOk, OnOk};
 ghost use Rattle.folder_base.specs.Memory.{world_of};
 ghost use Rattle.folder_base.specs.Story.{IsWhole};
 
 use super::*;
-use crate::part_tests::{two_parts, two_stems};
 use std::alloc::Global;
 use std::test::Fail;
-use text_base::FolderFault;
+use text_base::{Failed, FolderFault, Text};
 
 // A file is written under another name, published, and put in the place of a second one.
 fn publish_twice(folder: &mut FolderMem) -> Result<(), FolderFault>
@@ -77,38 +76,23 @@ fn a_stop_keeps_the_first_name_changes_and_the_synced_bytes(rt: HostRuntime) -> 
     Ok(())
 }
 
-// Two parts and the rest change names while the parts are out.
-fn changed_in_parts(alloc: Global) -> Result<FolderMem, Fail>
-    ensures { IfOk result (λ folder. IsWhole (world_of folder)) }
+fn two_stems(alloc: Global, first: &str, second: &str) -> Result<Vec<Text>, Fail>
+    ensures { IfOk result (λ stems. stems.items ≡ first.now ∷ second.now ∷ []) }
 {
-    let mut folder = FolderMem::new(alloc, Vec::new(alloc), Vec::new(alloc), None)?;
-    let stems = two_stems(alloc, "u", "v")?;
-    let (mut u, mut v) = two_parts(folder.fan(alloc, &stems)?)?;
-    v.create("v.new")?;
-    v.rename("v.new", "v")?;
-    u.create("u")?;
-    folder.create("w")?;
-    folder.gather(vec![in alloc; u, v]?);
-    Ok(folder)
+    let mut stems = Vec::new(alloc);
+    stems.push(Text::new(alloc, first)?)?;
+    stems.push(Text::new(alloc, second)?)?;
+    Ok(stems)
 }
 
-#[test]
-fn a_stop_takes_the_changes_of_parts_behind_those_of_the_folder(
-    rt: HostRuntime,
-) -> Result<(), Fail> {
-    let alloc = rt.alloc();
-    let folder = changed_in_parts(alloc)?;
-    for (kept, wanted) in [
-        (0, ""),
-        (1, "w= "),
-        (2, "u= w= "),
-        (3, "u= v.new= w= "),
-        (4, "u= v= w= "),
-    ] {
-        let mut left = folder.after_stop(alloc, kept, b'.')?;
-        assert_eq!(rt; listed(alloc, &mut left)?.as_str(), wanted, "kept {kept}");
+fn two_parts(parts: Vec<FolderMem>) -> Result<(FolderMem, FolderMem), Fail>
+    ensures { IfOk result (λ pair. parts.items ≡ pair.0 ∷ pair.1 ∷ []) }
+{
+    let mut parts = parts.into_iter();
+    match (parts.next(), parts.next(), parts.next()) {
+        (Some(first), Some(second), None) => Ok((first, second)),
+        _ => Err(Failed)?,
     }
-    Ok(())
 }
 
 // Name changes are unsettled as parts are handed out: one file of the folder went to a part, and one of
@@ -135,17 +119,20 @@ fn changed_across(alloc: Global) -> Result<FolderMem, Fail>
     let mut folder = FolderMem::new(alloc, Vec::new(alloc), Vec::new(alloc), None)?;
     renamed_across(&mut folder)?;
     let stems = two_stems(alloc, "u", "v")?;
-    let (u, mut v) = two_parts(folder.fan(alloc, &stems)?)?;
+    let (mut u, mut v) = two_parts(folder.fan(alloc, &stems)?)?;
     v.append("v", b"+")?;
     v.append("v.b", b"+")?;
     v.rename("v.b", "v.c")?;
     folder.create("w")?;
+    u.create("u")?;
     folder.gather(vec![in alloc; u, v]?);
     Ok(folder)
 }
 
 #[test]
-fn a_stop_tells_a_file_that_left_a_part_as_it_was_handed_out(rt: HostRuntime) -> Result<(), Fail> {
+fn a_stop_takes_changes_of_parts_last_and_files_that_left_one_as_they_were(
+    rt: HostRuntime,
+) -> Result<(), Fail> {
     let alloc = rt.alloc();
     let folder = changed_across(alloc)?;
     for (kept, wanted) in [
@@ -154,10 +141,11 @@ fn a_stop_tells_a_file_that_left_a_part_as_it_was_handed_out(rt: HostRuntime) ->
         (2, "b=2 v.a=2. "),
         (3, "v.a=2. "),
         (4, "v.a=2. w= "),
-        (5, "v=1. v.a=2. w= "),
-        (6, "v=1. w= "),
-        (7, "v=1. v.b=2. w= "),
-        (8, "v=1. v.c=2. w= "),
+        (5, "u= v.a=2. w= "),
+        (6, "u= v=1. v.a=2. w= "),
+        (7, "u= v=1. w= "),
+        (8, "u= v=1. v.b=2. w= "),
+        (9, "u= v=1. v.c=2. w= "),
     ] {
         let mut left = folder.after_stop(alloc, kept, b'.')?;
         assert_eq!(rt; listed(alloc, &mut left)?.as_str(), wanted, "kept {kept}");

@@ -14,6 +14,6 @@ returns-clause-kept c =
       tells = λ e. e;
       still_tells = λ e. e;
       steady = λ e. ap is_steady c.count_back.ensures.same ∙ ap plans_nothing c.take_parts.ensures.plan ∙ e;
-      faults = roses_with (λ (w : World). w.faults) parts old new c.have_faults-faulty.result c.have_faults-faulty.ensures c.count_back.ensures.faults;
-      refusals = roses_with (λ (w : World). w.refusals) parts old new c.have_refusals-refused.result c.have_refusals-refused.ensures c.count_back.ensures.refusals;
+      faults = roses_with (λ (w : World). w.faults) parts old new c.have_faults-faulty.result c.have_faults-faulty.ensures c.count_back.ensures.faults c.count_back.ensures.later;
+      refusals = roses_with (λ (w : World). w.refusals) parts old new c.have_refusals-refused.result c.have_refusals-refused.ensures c.count_back.ensures.refusals c.count_back.ensures.refused_later;
     }
