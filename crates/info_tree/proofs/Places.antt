@@ -1,6 +1,6 @@
 -- The place of the first element that passes a test.
 use Rattle.std.proofs.Common.{◌≡◌, ℕ, zero, suc, ◌+◌, List, [], ◌∷◌, ◌++◌, length, refl, sym, ap, subst, ◌∙◌, arith, Bool, true, false, cond, take}
-use Rattle.std.specs.Prelude.{Option, Some, None, is_some, ◌||◌, nat_lt, not, map, slice_get}
+use Rattle.std.specs.Prelude.{Option, Some, None, is_some, ◌||◌, nat_lt, not, slice_get}
 use Rattle.std.specs.List.{position, position_or_len, list_any, IsDistinct, AllByRecursion}
 use Rattle.std.specs.Str.{bytes_eq}
 use Rattle.std.proofs.lemmas.Bool.Decides.{nat_tests}

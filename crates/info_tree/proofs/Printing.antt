@@ -1,6 +1,6 @@
 -- A printed text grows entry by entry, and a printed string run by run.
 use Rattle.std.proofs.Common.{◌≡◌, ℕ, zero, suc, ◌+◌, List, [], ◌∷◌, ◌++◌, length, refl, sym, ap, ◌∙◌, append_assoc, arith, drop, Bool, false, add-one}
-use Rattle.std.specs.Prelude.{Option, Some, None, map, slice_get, ◌==◌, nat_lt, if◌then◌else◌, codes}
+use Rattle.std.specs.Prelude.{Some, None, map, slice_get, ◌==◌, nat_lt, if◌then◌else◌, codes}
 use Rattle.std.specs.Str.{chars}
 use Rattle.std.proofs.lemmas.Bool.Decides.{nat_tests}
 use Rattle.std.proofs.lemmas.List.{append-nil}

@@ -1,4 +1,4 @@
-use Rattle.std.proofs.Common.{◌≡◌, length, ◌∙◌}
+use Rattle.std.proofs.Common.{◌∙◌}
 use Rattle.std.specs.Prelude.{map}
 use Rattle.info_tree.specs.Plain.{plain}
 use Rattle.info_tree.proofs.PairLemmas.{length-view}
