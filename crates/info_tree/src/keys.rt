@@ -61,8 +61,10 @@ impl Keys {
         Some(text.as_str())
     }
 
+    /// The place of a text. No two are equal.
     pub fn place_of(&self, text: &str) -> Option<usize>
-        ensures { result ≡ position (bytes_eq text.now) self.now }
+        ensures place { result ≡ position (bytes_eq text.now) self.now }
+        ensures distinct { IsDistinct bytes_eq self.now }
     {
         match &self.places {
             Some(places) => places.get(text).copied(),

@@ -59,7 +59,8 @@ impl Members {
     }
 
     pub fn get(&self, key: &str) -> Option<&Tree>
-        ensures { option_map (λ t. plain t.now) result ≡ value_at self.now key.now }
+        ensures value { option_map (λ t. plain t.now) result ≡ value_at self.now key.now }
+        ensures distinct { HaveDistinctKeys self.now }
     {
         let place = self.keys.place_of(key)?;
         value(&self.values, place)
@@ -78,6 +79,7 @@ impl Members {
     pub fn put(&mut self, key: Text, tree: Tree) -> Result<(), OutOfMemory>
         ensures ok { OnOk result (self.new ≡ put self.old key (plain tree)) }
         ensures err { OnErr result (self.new ≡ self.old) }
+        ensures distinct { HaveDistinctKeys self.old }
     {
         match self.keys.place_of(key.as_str()) {
             Some(place) => {

@@ -139,8 +139,10 @@ impl TreeMap {
         }
     }
 
+    /// The value under a key. No two pairs have the same key.
     pub fn get(&self, key: &str) -> Option<&Tree>
-        ensures { option_map (λ t. plain t.now) result ≡ value_at self.now key.now }
+        ensures value { option_map (λ t. plain t.now) result ≡ value_at self.now key.now }
+        ensures distinct { HaveDistinctKeys self.now }
     {
         match &self.members {
             Some(members) => members.get(key),
@@ -170,6 +172,7 @@ impl TreeMap {
     pub fn put(&mut self, key: Text, tree: Tree) -> Result<(), OutOfMemory>
         ensures ok { OnOk result (self.new ≡ put self.old key (plain tree)) }
         ensures err { OnErr result (self.new ≡ self.old) }
+        ensures distinct { HaveDistinctKeys self.old }
     {
         let mut members = match self.members.take() {
             Some(members) => members,
