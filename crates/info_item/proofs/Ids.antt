@@ -3,7 +3,9 @@ use Rattle.std.proofs.Common.{◌≡◌, ℕ, zero, suc, ◌+◌, ◌<◌, lengt
 use Rattle.std.specs.Prelude.{Option, Some, None, Ok, Err, take, slice_get, not, ◌||◌}
 use Rattle.std.specs.List.{list_any}
 use Rattle.std.specs.Str.{bytes_eq}
-use Rattle.info_tree.specs.Tree.{Tree, list, trees_of, tree_list}
+use Rattle.std.proofs.lemmas.Bool.{not-true, not-false}
+use Rattle.info_tree.specs.Tree.{Tree, list, trees_of}
+use Rattle.info_tree.proofs.PairLemmas.{tree_list-trees_of}
 use Rattle.info_item.specs.Formats.{format_id_of, has_id, format_by, format_of, PutsId, Place, place_by, formats_at, list_of}
 use Rattle.info_item.specs.declared.item_fault.ItemFault.TheVariants.{FormatId}
 
@@ -71,36 +73,23 @@ format_of-new k j ts t id e h =
     subst (λ (o : Option (List ℕ)). format_by k ts j t o ≡ Ok (record { tree = t; id = id })) (sym e)
     (format_by-new k j ts t id (sym (any-ids_of id (take j ts)) ∙ h))
 
--- a list of trees and back
-pub tree_list-trees_of : (ts : List Tree) → tree_list (trees_of ts) ≡ ts
-tree_list-trees_of [] = refl
-tree_list-trees_of (t ∷ ts) = ap (λ l. t ∷ l) (tree_list-trees_of ts)
-
 -- what a list of entries that is not empty is read as
 pub formats-listed : (k : ℕ) (tree : Tree) (o : Option Tree) (ts : List Tree) → o ≡ Some (list (trees_of ts)) → 0 < length ts → (own : Place) →
     formats_at k tree (place_by o own) ≡ list_of k ts
 formats-listed k tree o [] e more own = absurd (omega (arith, more))
 formats-listed k tree o (t ∷ ts) e more own = rw e (ap (λ l. list_of k (t ∷ l)) (tree_list-trees_of ts))
 
-not-new : (b x : Bool) → b ≡ not x → b ≡ false → x ≡ true
-not-new b true e n = refl
-not-new b false e n = absurd (cc)
-
-is-new : (b x : Bool) → b ≡ not x → b ≡ true → x ≡ false
-is-new b true e n = absurd (cc)
-is-new b false e n = refl
-
 -- an id that was there
 pub seen : (old new ids : List (List ℕ)) (text id : List ℕ) (b : Bool) → text ≡ id → old ≡ ids → PutsId old new text b → b ≡ false →
     list_any (bytes_eq id) ids ≡ true
 seen old new ids text id b same are puts n =
-    not-new b (list_any (bytes_eq id) ids) (subst (λ (t : List ℕ). b ≡ not (list_any (bytes_eq t) ids)) same (subst (λ (l : List (List ℕ)). b ≡ not (list_any (bytes_eq text) l)) are puts.0)) n
+    not-false (list_any (bytes_eq id) ids) (sym (subst (λ (t : List ℕ). b ≡ not (list_any (bytes_eq t) ids)) same (subst (λ (l : List (List ℕ)). b ≡ not (list_any (bytes_eq text) l)) are puts.0)) ∙ n)
 
 -- an id that was not there
 pub unseen : (old new ids : List (List ℕ)) (text id : List ℕ) (b : Bool) → text ≡ id → old ≡ ids → PutsId old new text b → b ≡ true →
     list_any (bytes_eq id) ids ≡ false
 unseen old new ids text id b same are puts n =
-    is-new b (list_any (bytes_eq id) ids) (subst (λ (t : List ℕ). b ≡ not (list_any (bytes_eq t) ids)) same (subst (λ (l : List (List ℕ)). b ≡ not (list_any (bytes_eq text) l)) are puts.0)) n
+    not-true (list_any (bytes_eq id) ids) (sym (subst (λ (t : List ℕ). b ≡ not (list_any (bytes_eq t) ids)) same (subst (λ (l : List (List ℕ)). b ≡ not (list_any (bytes_eq text) l)) are puts.0)) ∙ n)
 
 -- the ids after one that was not there
 pub put-last : (old new ids : List (List ℕ)) (text id : List ℕ) (b : Bool) → text ≡ id → old ≡ ids → PutsId old new text b → b ≡ true →

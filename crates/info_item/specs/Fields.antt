@@ -7,35 +7,20 @@ use Rattle.std.specs.Fmt.{signed_decimal}
 use Rattle.std.specs.Str.{chars, str_to_ascii_lowercase, bytes_eq}
 use Rattle.text_base.specs.Number.{Number, whole, decimal}
 use Rattle.text_base.specs.Fields.{num_key}
+use Rattle.text_base.specs.Spaces.{without_last_spaces}
 use Rattle.text_base.specs.declared.fields.NumField.{NumField}
 use Rattle.text_base.specs.declared.fields.TextField.{TextField}
 use Rattle.text_base.specs.declared.fields.TextField.TheVariants.{Url, Ext, Acodec, Vcodec, Container, Protocol, Language, DynamicRange, FormatId, Format, FormatNote, Resolution}
 use Rattle.info_tree.specs.Tree.{Tree, null, truth, number, text, list, mapping}
+use Rattle.info_tree.specs.Scalars.{text_of, number_of}
 use Rattle.info_tree.specs.Pairs.{member}
 use Rattle.info_item.specs.Item.{Format as Form}
 
--- the text that a tree is
-abbrev pub text_of : Tree → Option (List ℕ)
-text_of null = None
-text_of (truth b) = None
-text_of (number n) = None
-text_of (text s) = Some s
-text_of (list ts) = None
-text_of (mapping ps) = None
-
--- the number that a tree is
-abbrev pub number_of : Tree → Option Number
-number_of null = None
-number_of (truth b) = None
-number_of (number n) = Some n
-number_of (text s) = None
-number_of (list ts) = None
-number_of (mapping ps) = None
-
--- the text, or the number, under a key
+-- the text under a key
 abbrev pub text_at : Tree → List ℕ → Option (List ℕ)
 text_at tree key = option_and_then text_of (member tree key)
 
+-- the number under a key
 abbrev pub number_at : Tree → List ℕ → Option Number
 number_at tree key = option_and_then number_of (member tree key)
 
@@ -58,19 +43,21 @@ id_of (mapping ps) = None
 abbrev pub scheme_of : List ℕ → Option (List ℕ)
 scheme_of url = option_map (λ n. str_to_ascii_lowercase (take n url)) (position (λ b. b == 58) url)
 
--- the protocol that the `url` tells, where the key `protocol` is absent
+-- what the `url` tells of the protocol, where the key `protocol` is absent
 abbrev pub protocol_told : Option Tree → Option (List ℕ) → Option (List ℕ)
 protocol_told None url = option_and_then scheme_of url
 protocol_told (Some t) url = None
 
+-- the protocol that a format's `url` tells
 abbrev pub derived_protocol : Tree → Option (List ℕ)
 derived_protocol tree = protocol_told (member tree (codes "protocol")) (text_at tree (codes "url"))
 
--- the protocol of a format: the text `protocol`, or what the `url` tells where that key is absent
+-- the text `protocol`, or what the `url` tells where that key is absent
 abbrev pub protocol_by : Option Tree → Option (List ℕ) → Option (List ℕ)
 protocol_by None url = option_and_then scheme_of url
 protocol_by (Some t) url = text_of t
 
+-- the protocol of a format
 abbrev pub protocol_of : Tree → Option (List ℕ)
 protocol_of tree = protocol_by (member tree (codes "protocol")) (text_at tree (codes "url"))
 
@@ -83,9 +70,11 @@ abbrev pub is_missing : Option (List ℕ) → Bool
 is_missing None = false
 is_missing (Some codec) = bytes_eq codec (codes "none")
 
+-- whether a format has a video stream
 abbrev pub has_video_of : Tree → Bool
 has_video_of tree = not (is_missing (text_at tree (codes "vcodec")))
 
+-- whether a format has an audio stream
 abbrev pub has_audio_of : Tree → Bool
 has_audio_of tree = not (is_missing (text_at tree (codes "acodec")))
 
@@ -113,10 +102,11 @@ text_of_field f Format = text_at f.tree (codes "format")
 text_of_field f FormatNote = text_at f.tree (codes "format_note")
 text_of_field f Resolution = text_at f.tree (codes "resolution")
 
--- whether a text has white space (Unicode's White_Space), or a control character of ASCII
+-- whether a text has white space (Unicode's White_Space)
 abbrev pub has_space : List ℕ → Bool
 has_space bytes = list_any is_whitespace (chars bytes)
 
+-- whether a text has a control character of ASCII
 abbrev pub has_controls : List ℕ → Bool
 has_controls bytes = list_any is_ascii_control bytes
 
@@ -129,19 +119,15 @@ abbrev pub site_name : Option (List ℕ) → Option (List ℕ)
 site_name None = None
 site_name (Some name) = if is_site_name name then Some name else None
 
--- the site of an item: `extractor_key`, else `extractor`, else `generic`
+-- the first of two names, else `generic`
 abbrev pub site_by : Option (List ℕ) → Option (List ℕ) → List ℕ
 site_by (Some key) extractor = key
 site_by None (Some extractor) = extractor
 site_by None None = codes "generic"
 
+-- the site of an item: `extractor_key`, else `extractor`, else `generic`
 abbrev pub site_of : Tree → List ℕ
 site_of tree = site_by (site_name (text_at tree (codes "extractor_key"))) (site_name (text_at tree (codes "extractor")))
-
--- a text without the spaces at its end
-abbrev pub without_last_spaces : List ℕ → List ℕ
-without_last_spaces [] = []
-without_last_spaces (b ∷ bs) = if b == 32 && length (without_last_spaces bs) == 0 then [] else b ∷ without_last_spaces bs
 
 -- an item's line in an archive: its site in ASCII lower case, a space and its id, without spaces at the end
 abbrev pub line_of : Tree → List ℕ → List ℕ

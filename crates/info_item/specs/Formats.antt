@@ -49,6 +49,7 @@ is_list (Some (mapping ps)) = false
 abbrev pub serves_itself : Tree → Bool
 serves_itself tree = is_some (text_at tree (codes "url")) || is_list (member tree (codes "fragments"))
 
+-- the item itself, where it can be its own format
 abbrev pub itself_if : Bool → Place
 itself_if true = itself
 itself_if false = nowhere
@@ -64,6 +65,7 @@ place_by (Some (list no_trees)) own = own
 place_by (Some (list (a_tree t ts))) own = listed (t ∷ tree_list ts)
 place_by (Some (mapping ps)) own = nowhere
 
+-- where an item's formats stand
 abbrev pub place_of : Tree → Place
 place_of tree = place_by (member tree (codes "formats")) (itself_if (serves_itself tree))
 
@@ -76,20 +78,22 @@ abbrev pub has_id : List ℕ → Option (List ℕ) → Bool
 has_id id None = false
 has_id id (Some other) = bytes_eq id other
 
--- the format that entry j of a list is: it has an id, and none of the entries before it has that id
+-- the entry with this id, where none of the entries before it has that id
 abbrev pub format_by : ℕ → List Tree → ℕ → Tree → Option (List ℕ) → Result Format ItemFault
 format_by k trees j tree None = Err (FormatId k j)
 format_by k trees j tree (Some id) =
     if list_any (λ t. has_id id (format_id_of t)) (take j trees) then Err (FormatId k j) else Ok (record { tree = tree; id = id })
 
+-- the format that entry j of item k's list is, or its fault
 abbrev pub format_of : ℕ → List Tree → ℕ → Tree → Result Format ItemFault
 format_of k trees j tree = format_by k trees j tree (format_id_of tree)
 
--- the id of an item that is its own format: `0` where it has no `format_id`
+-- the id under `format_id`, and `0` where that is absent
 abbrev pub own_id_by : Option Tree → Option (List ℕ)
 own_id_by None = Some (codes "0")
 own_id_by (Some t) = id_of t
 
+-- the id of an item as its own format
 abbrev pub own_id : Tree → Option (List ℕ)
 own_id tree = own_id_by (member tree (codes "format_id"))
 
@@ -102,12 +106,13 @@ own_format k tree (Some id) = Ok (record { tree = tree; id = id } ∷ [])
 abbrev pub list_of : ℕ → List Tree → Result (List Format) ItemFault
 list_of k trees = each (format_of k trees) 0 trees
 
--- the formats of item k, or its first fault there
+-- the formats of a place, or the first fault there
 abbrev pub formats_at : ℕ → Tree → Place → Result (List Format) ItemFault
 formats_at k tree (listed trees) = list_of k trees
 formats_at k tree itself = own_format k tree (own_id tree)
 formats_at k tree nowhere = Err (NoFormats k)
 
+-- the formats of item k, or its first fault there
 abbrev pub formats_of : ℕ → Tree → Result (List Format) ItemFault
 formats_of k tree = formats_at k tree (place_of tree)
 

@@ -16,11 +16,12 @@ pub record Item : Type 0 where
   pub line : List ℕ
   pub formats : List Format
 
--- how the logic stores them: as the tuples of their parts
+-- how the logic stores a format: as the pair of its parts
 abbrev pub coded_format : Coded Format
 coded_format =
     code_by (Tree × List ℕ) (coded× coded_tree (coded_list coded_ℕ)) (λ f. (f.tree, f.id)) (λ p. record { tree = p.0; id = p.1 }) (λ _. refl)
 
+-- and an item: as the pairs of its parts
 abbrev pub coded_item : Coded Item
 coded_item =
     code_by ((Tree × List ℕ) × (List ℕ × List Format)) (coded× (coded× coded_tree (coded_list coded_ℕ)) (coded× (coded_list coded_ℕ) (coded_list coded_format)))

@@ -4,7 +4,7 @@ ghost use Rattle.text_base.specs.Number.{number_of};
 ghost use Rattle.info_tree.specs.Plain.{plain};
 ghost use Rattle.info_item.specs.Fields.{ext_of, has_video_of, has_audio_of, number_of_field, text_of_field, protocol_of, written_id_of};
 
-use crate::keys::{is_missing, number_at, text_at, text_of, text_within};
+use crate::keys::{is_missing, number_at, text_at, text_within};
 use crate::protocol::derived_protocol;
 use info_tree::Tree;
 use std::alloc::Global;
@@ -95,7 +95,7 @@ impl<'a> Format<'a> {
     }
 
     /// The map that the format was read from.
-    pub fn tree(&self) -> &'a Tree
+    pub fn tree(&self) -> &Tree
         ensures { plain result.now ≡ self.now.tree }
     {
         self.tree
@@ -106,7 +106,7 @@ impl<'a> Format<'a> {
         ensures { option_map (λ t. t.now) result ≡ protocol_of self.now.tree }
     {
         match self.tree.get("protocol") {
-            Some(tree) => text_of(tree),
+            Some(tree) => tree.as_text(),
             None => text_within(&self.protocol),
         }
     }

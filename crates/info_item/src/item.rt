@@ -71,7 +71,7 @@ impl<'a> Item<'a> {
     }
 
     /// The map that the item was read from.
-    pub fn tree(&self) -> &'a Tree
+    pub fn tree(&self) -> &Tree
         ensures { plain result.now ≡ self.now.tree }
     {
         self.tree

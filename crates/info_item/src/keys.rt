@@ -9,38 +9,18 @@ use info_tree::Tree;
 use std::alloc::Global;
 use text_base::{Num, OutOfMemory, Text};
 
-/// The text that a tree is.
-pub(crate) fn text_of(tree: &Tree) -> Option<&str>
-    ensures { option_map (λ t. t.now) result ≡ fields.text_of (plain tree.now) }
-{
-    match tree {
-        Tree::Text(text) => Some(text.as_str()),
-        _ => None,
-    }
-}
-
 /// The text under a key.
 pub(crate) fn text_at<'a>(tree: &'a Tree, key: &str) -> Option<&'a str>
     ensures { option_map (λ t. t.now) result ≡ fields.text_at (plain tree.now) key.now }
 {
-    text_of(tree.get(key)?)
-}
-
-/// The number that a tree is.
-fn number_of(tree: &Tree) -> Option<Num>
-    ensures { option_map value_of result ≡ fields.number_of (plain tree.now) }
-{
-    match tree {
-        Tree::Num(number) => Some(*number),
-        _ => None,
-    }
+    tree.get(key)?.as_text()
 }
 
 /// The number under a key.
 pub(crate) fn number_at(tree: &Tree, key: &str) -> Option<Num>
     ensures { option_map value_of result ≡ fields.number_at (plain tree.now) key.now }
 {
-    number_of(tree.get(key)?)
+    tree.get(key)?.as_number()
 }
 
 /// Whether the codec under a key says that its stream is missing.

@@ -1,6 +1,7 @@
 //! Items and formats of an information file.
 #![tactic(auto)]
 
+mod combo;
 mod format;
 mod formats;
 mod item;
@@ -10,6 +11,7 @@ mod line;
 mod protocol;
 mod reader;
 
+pub use combo::Combo;
 pub use format::Format;
 pub use item::Item;
 pub use item_fault::ItemFault;

@@ -7,7 +7,7 @@ ghost use Rattle.info_item.specs.Fields as fields;
 use crate::keys::{has_controls, text_at};
 use info_tree::Tree;
 use std::alloc::Global;
-use text_base::{OutOfMemory, Text};
+use text_base::{OutOfMemory, Text, without_last_spaces};
 
 /// Whether a text has white space.
 fn has_space(text: &str) -> bool
@@ -43,17 +43,6 @@ fn site_of(tree: &Tree) -> &str
             None => "generic",
         },
     }
-}
-
-/// A text without the spaces at its end.
-fn without_last_spaces(text: &str) -> &str
-    ensures { result.now ≡ fields.without_last_spaces text.now }
-{
-    let mut rest = text;
-    while let Some(front) = rest.strip_suffix(' ') {
-        rest = front;
-    }
-    rest
 }
 
 /// The site in ASCII lower case, a space and the id, without spaces at the end.

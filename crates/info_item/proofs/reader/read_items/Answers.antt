@@ -1,4 +1,4 @@
-use Rattle.info_item.proofs.Ids.{tree_list-trees_of}
+use Rattle.info_tree.proofs.PairLemmas.{tree_list-trees_of}
 use Rattle.info_item.proofs.reader.read_items.Goals as goal
 
 pub returns-in-List-clause-items : goal.returns-in-List-clause-items
