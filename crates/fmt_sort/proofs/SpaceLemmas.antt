@@ -2,7 +2,7 @@
 use Rattle.std.proofs.Common.{◌≡◌, ◌≢◌, ◌≤◌, ◌<◌, ◌+◌, ◌-◌, ℕ, List, [], ◌∷◌, ◌++◌, Bool, true, false, ◌&&◌, take, drop, length, get_or, eqb, refl, ap, ◌∙◌, arith, add-one, drop-cons, length-append}
 use Rattle.std.proofs.lemmas.List.{take_more}
 use Rattle.std.proofs.lemmas.Bool.{ne_eqb}
-use Rattle.info_item.specs.Fields.{without_last_spaces}
+use Rattle.text_base.specs.Spaces.{without_last_spaces}
 use Rattle.fmt_sort.specs.Pieces.{without_first_spaces}
 
 pub first_space : (bs : List ℕ) (i : ℕ) → i < length bs → get_or bs i 0 ≡ 32 → without_first_spaces (drop i bs) ≡ without_first_spaces (drop (i + 1) bs)

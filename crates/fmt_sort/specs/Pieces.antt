@@ -1,7 +1,7 @@
 -- A piece of a sort word: `[+]field[(:|~)limit]`, with spaces around it.
 use Rattle.std.specs.Prelude.{ℕ, List, [], ◌∷◌, take, drop, Bool, ◌||◌, ◌==◌, if◌then◌else◌, slice_index}
 use Rattle.std.specs.List.{position_or_len}
-use Rattle.info_item.specs.Fields.{without_last_spaces}
+use Rattle.text_base.specs.Spaces.{without_last_spaces}
 
 abbrev pub is_comma : ℕ → Bool
 is_comma b = b == 44

@@ -1,7 +1,7 @@
 //! The parts of a piece of a sort word.
 
 ghost use Rattle.std.specs.Prelude.{◌≡◌};
-ghost use Rattle.info_item.specs.Fields.{without_last_spaces};
+ghost use Rattle.text_base.specs.Spaces.{without_last_spaces};
 ghost use Rattle.fmt_sort.specs.Pieces as spec;
 ghost use Rattle.fmt_sort.specs.PieceParts.{parts_in};
 

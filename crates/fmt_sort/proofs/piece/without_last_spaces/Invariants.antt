@@ -1,5 +1,5 @@
 use Rattle.std.proofs.Common.{◌≡◌, ◌≤◌, take, length}
-use Rattle.info_item.specs.Fields.{without_last_spaces}
+use Rattle.text_base.specs.Spaces.{without_last_spaces}
 use Rattle.fmt_sort.proofs.piece.without_last_spaces.Given as goal
 
 -- spaces stand from this end on
