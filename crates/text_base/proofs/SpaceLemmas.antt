@@ -1,9 +1,9 @@
 -- Spaces at the ends of a text, dropped one by one.
-use Rattle.std.proofs.Common.{◌≡◌, ◌≢◌, ◌-◌, ℕ, List, [], ◌∷◌, ◌++◌, false, ◌==◌, take, drop, length, eqb, refl, sym, ap, ◌∙◌, arith, lit<, length-append}
+use Rattle.std.proofs.Common.{◌<◌, ◌≤◌, ◌≡◌, ◌≢◌, ◌-◌, ℕ, List, [], ◌∷◌, ◌++◌, false, ◌==◌, take, drop, length, get_or, eqb, refl, sym, ap, ◌∙◌, arith, lit<, length-append}
 use Rattle.std.proofs.Math.Bool.{and-false}
 use Rattle.std.proofs.Math.Seq.{drop-length}
 use Rattle.std.proofs.lemmas.Bool.{ne_eqb}
-use Rattle.std.proofs.lemmas.List.{take-append-drop}
+use Rattle.std.proofs.lemmas.List.{take-append-drop, take_more}
 use Rattle.std.proofs.lemmas.Str.{encode_ascii, len_utf8_ascii}
 use Rattle.std.proofs.lemmas.Str.Pattern.{drop_at_char}
 use Rattle.std.specs.Prelude.{Option, Some, None, IfSome}
@@ -36,6 +36,26 @@ no_last_space (b ∷ c ∷ bs) none =
     let same : without_last_spaces (c ∷ bs) ≡ c ∷ bs = no_last_space (c ∷ bs) (λ front e. none (b ∷ front) (ap (λ l. b ∷ l) e)) in
     let long : (length (c ∷ bs) == 0) ≡ false = ne_eqb _ 0 (λ e. absurd (omega (arith, e))) in
     rw (same, long) (rw (and-false (b == 32)) refl)
+
+one_less : (n : ℕ) → 0 < n → n ≡ (n - 1) + 1
+one_less n l = omega arith
+
+ends_in : (bs : List ℕ) (n : ℕ) → 0 < n → n ≤ length bs → take n bs ≡ take (n - 1) bs ++ get_or bs (n - 1) 0 ∷ []
+ends_in bs n p w = ap (λ k. take k bs) (one_less n p) ∙ take_more bs (n - 1) 0 (omega arith)
+
+-- a space at the end of a front may go
+pub space_at_end : (bs : List ℕ) (n : ℕ) → 0 < n → n ≤ length bs → get_or bs (n - 1) 0 ≡ 32 → without_last_spaces (take n bs) ≡ without_last_spaces (take (n - 1) bs)
+space_at_end bs n p w e = rw (ends_in bs n p w) (rw e (one_last_space (take (n - 1) bs)))
+
+-- a front that ends with another byte stays
+pub kept_at_end : (bs : List ℕ) (n : ℕ) → 0 < n → n ≤ length bs → get_or bs (n - 1) 0 ≢ 32 → without_last_spaces (take n bs) ≡ take n bs
+kept_at_end bs n p w e = rw (ends_in bs n p w) (last_byte_kept (take (n - 1) bs) (get_or bs (n - 1) 0) e)
+
+-- and so does an empty one
+pub none_left : (bs : List ℕ) (n : ℕ) → n ≤ 0 → without_last_spaces (take n bs) ≡ take n bs
+none_left bs n l =
+    let e : n ≡ 0 = omega arith in
+    rw e refl
 
 first_one : (m : List ℕ) (n : ℕ) → FindsCharPrefix 32 m (Some n) → m ≡ 32 ∷ drop n m
 first_one m n h = drop_at_char 32 m 0 n h (lit< tt)

@@ -32,7 +32,7 @@ pub use num_reading::read_num;
 pub use number::{Dec, Num};
 pub use scan::{first_json_special, first_name_special, json_special_32, name_special_32};
 pub use size::{size_of_bytes, size_value};
-pub use spaces::{trimmed, without_first_spaces, without_last_spaces};
+pub use spaces::{trimmed, trimmed_bytes, without_first_spaces, without_last_spaces};
 pub use text::Text;
 
 #[cfg(test)]

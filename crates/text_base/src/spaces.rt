@@ -23,3 +23,32 @@ pub fn trimmed(text: &str) -> &str
 {
     without_last_spaces(without_first_spaces(text))
 }
+
+/// Bytes without the spaces at their front.
+fn bytes_without_first_spaces(bytes: &[u8]) -> &[u8]
+    ensures { result.now ≡ spec.without_first_spaces bytes.now }
+{
+    let mut rest = bytes;
+    while let [b' ', behind @ ..] = rest {
+        rest = behind;
+    }
+    rest
+}
+
+/// Bytes without the spaces at their end.
+fn bytes_without_last_spaces(bytes: &[u8]) -> &[u8]
+    ensures { result.now ≡ spec.without_last_spaces bytes.now }
+{
+    let mut end = bytes.len();
+    while end > 0 && bytes[end - 1] == b' ' {
+        end -= 1;
+    }
+    &bytes[..end]
+}
+
+/// Bytes without the spaces around them.
+pub fn trimmed_bytes(bytes: &[u8]) -> &[u8]
+    ensures { result.now ≡ spec.trimmed bytes.now }
+{
+    bytes_without_last_spaces(bytes_without_first_spaces(bytes))
+}
