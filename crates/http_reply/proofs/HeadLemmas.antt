@@ -1,14 +1,16 @@
 -- The final head is one at most.
 use Rattle.std.proofs.Common.{◌≡◌, ℕ, zero, suc, ◌⊎◌, ◌*◌, ◌+◌, ◌-◌, ◌<◌, ◌≤◌, List, [], ◌∷◌, ◌++◌, length, take, drop, refl, sym, ap, subst, ◌∙◌, arith, append-nil, length-append, length-drop, inl, inr, Bool, true, false, not}
 use Rattle.std.proofs.lemmas.List.{length-map, length-take-le, drop-append-le}
-use Rattle.std.specs.Prelude.{All, nat_lt, nat_le, ◌&&◌, IsTrue}
-use Rattle.std.proofs.lemmas.Bool.{cases_Bool, and_parts, and_cases, not-true, not-false, lt-leb, le-leb, ltb-true, ltb-false}
+use Rattle.std.specs.Prelude.{All, nat_lt, nat_le, ◌&&◌, IsTrue, IsFalse}
+use Rattle.std.proofs.lemmas.Bool.{cases_Bool, and_parts, and_cases, not-true, not-false, lt-leb, le-leb, ltb-true, ltb-false, cases_lt}
 use Rattle.std.specs.List.{flat_map}
 use Rattle.httparse.specs.Grammar.{LineEnd, crlf, lf, print_end, Field, IsField, print_field, ResponseHead, ReadsResponse, HasNoResponse, print_response, status_code}
 use Rattle.httparse.specs.Spans.{ResponseExceeds, IsResponseAt, IsResponseWithin, name_and_value, header_bytes}
 use Rattle.httparse.proofs.GrammarLemmas.{response_unique, ReadsResponse-append}
 use Rattle.std.proofs.lemmas.List.Elements.{All-head, All-tail}
-use Rattle.http_reply.specs.Heads.{Standing, whole, none, StandsAt, heads_at, heads_room, after_head, HeadStep, again, ends, HeadsEnd, Heads, stop, go, final, long, Steps, HeadShows, head_next, none_next, may_start}
+use Rattle.http_reply.specs.Heads.{Standing, whole, none, StandsAt, heads_at, heads_room, after_head, HeadStep, again, ends, HeadsEnd, Heads, stop, go, final, long, Steps, HeadShows, head_next, none_next, may_start, fields_room}
+use Rattle.http_reply.specs.declared.heads.HeadNext.{HeadNext}
+use Rattle.http_reply.specs.declared.heads.HeadNext.TheVariants.{Crowded}
 use Rattle.httparse.specs.declared.spans.HeaderSpan.{HeaderSpan}
 use Rattle.httparse.specs.declared.spans.ResponseSpans.{ResponseSpans}
 use Rattle.http_reply.proofs.ContentLemmas.{take_past}
@@ -70,9 +72,9 @@ fields_long (f ∷ fields) ok =
     omega (arith, length-append (print_field f) (flat_map print_field fields), line)
 
 -- So many fields do not fit in what is read for the heads.
-pub no_excess : (came : List ℕ) → length came ≤ heads_room → ResponseExceeds 32768 came → ⊥
+pub no_excess : (came : List ℕ) (count : ℕ) → length came ≤ heads_room → fields_room ≤ count → ResponseExceeds count came → ⊥
 unfolding print_response
-no_excess came fits x =
+no_excess came count fits many x =
     let front = x.0 in
     let h = x.3 in
     let reads = x.4 in
@@ -81,6 +83,15 @@ no_excess came fits x =
     let inside : length (flat_map print_field h.fields) ≤ length (print_response h) = simp length-append (omega arith) in
     let whole_ : length came ≡ length front + length x.1 = ap length x.2 ∙ length-append front x.1 in
     omega (arith, length-append front (print_end lf), length-append (print_response h) [], x.5)
+
+-- A head that has more fields than there is room for: this is not the whole room.
+pub shows_crowded : (came : List ℕ) (at : ℕ) (ended : Bool) (headers : List HeaderSpan) → length came ≤ heads_room
+    → ResponseExceeds (length headers) (drop at came) → HeadShows came at ended headers Crowded
+shows_crowded came at ended headers fits x =
+    elim (cases_lt (length headers) fields_room) [
+      | inl less ↦ (less, x)
+      | inr all ↦ absurd (no_excess (drop at came) (length headers) (omega (arith, length-drop at came)) all x)
+    ]
 
 take_nothing : (n : ℕ) → ◌≡◌ {A = List ℕ} (take n []) []
 take_nothing zero = refl
@@ -136,16 +147,17 @@ shows_whole came at ended headers spans within fits found inside =
       ]
     ]
 
-pub shows_none : (came : List ℕ) (at : ℕ) (ended : Bool) (headers : List HeaderSpan) → at ≤ length came → length came ≤ heads_room
-    → HasNoResponse (drop at came) → HeadShows came at ended headers (none_next came at ended)
-shows_none came at ended headers within fits no_head =
+pub shows_none : (came : List ℕ) (at : ℕ) (ended : Bool) (headers : List HeaderSpan) (waits : HeadNext) → at ≤ length came → length came ≤ heads_room
+    → HasNoResponse (drop at came) → (IsFalse ended → length came < heads_room → HeadShows came at ended headers waits)
+    → HeadShows came at ended headers (none_next came at ended waits)
+shows_none came at ended headers waits within fits no_head more_comes =
     let bytes = drop at came in
     let stands : (later : List ℕ) → (later ≡ []) ⊎ (heads_room ≤ length came) → StandsAt (heads_at (came ++ later) at) none =
     λ later over. subst HasNoResponse (sym (heads_same came later at within fits over)) no_head in
     elim (cases_Bool (not ended && nat_lt (length came) heads_room)) [
       | inl more ↦
           let parts = and_parts (not ended) (nat_lt (length came) heads_room) more in
-          rw more (not-true ended parts.0, ltb-true (length came) heads_room parts.1)
+          rw more (more_comes (not-true ended parts.0) (ltb-true (length came) heads_room parts.1))
       | inr over ↦
           let over_ : (later : List ℕ) → (IsTrue ended → later ≡ []) → (later ≡ []) ⊎ (heads_room ≤ length came) = λ later said.
           elim (and_cases (not ended) (nat_lt (length came) heads_room) over) [

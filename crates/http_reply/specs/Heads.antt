@@ -1,14 +1,14 @@
 -- The heads of a reply, and the final one among them.
 use Rattle.std.specs.Prelude.{◌≡◌, ℕ, ◌+◌, ◌<◌, ◌≤◌, Bool, ◌&&◌, ◌||◌, not, List, [], ◌++◌, length, take, drop, nat_lt, nat_le, nat_eq, if◌then◌else◌, codes, IsTrue}
 use Rattle.std.specs.List.{prefix_len, starts_with}
-use Rattle.httparse.specs.Grammar.{ResponseHead, ReadsResponse, HasNoResponse, print_response, status_code}
+use Rattle.httparse.specs.Grammar.{ResponseHead, ReadsResponse, HasNoResponse, NeverHasResponse, print_response, status_code}
 use Rattle.httparse.specs.Pieces.{is_newline}
 use Rattle.httparse.specs.declared.spans.HeaderSpan.{HeaderSpan}
 use Rattle.httparse.specs.declared.spans.ResponseSpans.{ResponseSpans}
-use Rattle.httparse.specs.Spans.{IsResponseAt, IsResponseWithin}
+use Rattle.httparse.specs.Spans.{IsResponseAt, IsResponseWithin, ResponseExceeds}
 use Rattle.std.specs.Prelude.{IsFalse}
 use Rattle.http_reply.specs.declared.heads.HeadNext.{HeadNext}
-use Rattle.http_reply.specs.declared.heads.HeadNext.TheVariants.{More, Again, Final, Bad, Long, Short}
+use Rattle.http_reply.specs.declared.heads.HeadNext.TheVariants.{More, Never, Crowded, Again, Final, Bad, Long, Short}
 
 -- so much of a reply is read for its heads
 abbrev pub heads_room : ℕ
@@ -67,9 +67,16 @@ pub record Steps (came : List ℕ) (at : ℕ) (ended : Bool) (step : HeadStep) :
   pub stands : (later : List ℕ) → (IsTrue ended → later ≡ []) → StandsAt (heads_at (came ++ later) at) standing
   pub after : (later : List ℕ) → (IsTrue ended → later ≡ []) → after_head (came ++ later) at standing ≡ step
 
--- what a step shows of the heads, whatever comes later
+-- So many fields have room in all that is read for the heads, since a field has three bytes at least.
+abbrev pub fields_room : ℕ
+fields_room = 32768
+
+-- What a step shows of the heads, whatever comes later. More bytes are waited for only where no whole head is at hand,
+-- and a head is called crowded only where it has more fields than there is room for, and this is not the whole room.
 abbrev pub HeadShows : List ℕ → ℕ → Bool → List HeaderSpan → HeadNext → Type 0
-HeadShows came at ended headers More = IsFalse ended × (length came < heads_room)
+HeadShows came at ended headers More = IsFalse ended × (length came < heads_room) × HasNoResponse (drop at came)
+HeadShows came at ended headers Never = IsFalse ended × (length came < heads_room) × NeverHasResponse (drop at came)
+HeadShows came at ended headers Crowded = (length headers < fields_room) × ResponseExceeds (length headers) (drop at came)
 HeadShows came at ended headers (Again next) = (at < next) × (next ≤ length came) × Steps came at ended (again next)
 HeadShows came at ended headers (Final spans next) =
     (head : ResponseHead) × Steps came at ended (ends (final head next)) × IsResponseAt (drop at came) headers spans head
@@ -84,9 +91,9 @@ head_next at spans =
     if nat_lt 128 spans.headers then Long
     else (if nat_le 100 spans.code && nat_lt spans.code 200 then Again (at + spans.len) else Final spans (at + spans.len))
 
--- what is said where none stands
-abbrev pub none_next : List ℕ → ℕ → Bool → HeadNext
-none_next came at ended =
-    if not ended && nat_lt (length came) heads_room then More
+-- what is said where none stands: this, where more bytes may come
+abbrev pub none_next : List ℕ → ℕ → Bool → HeadNext → HeadNext
+none_next came at ended waits =
+    if not ended && nat_lt (length came) heads_room then waits
     else (if not (may_start (drop at came)) then Bad at
     else (if nat_lt (length came) heads_room then Short else Long))

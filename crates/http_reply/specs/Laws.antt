@@ -9,6 +9,15 @@ abbrev pub IsOneVerdict : Type 0
 IsOneVerdict = (from : ℕ) (known : Option ℕ) (reply : List ℕ) (v w : Verdict)
     → IsVerdict from known reply v → IsVerdict from known reply w → v ≡ w
 
+-- It cannot be that a reply has no verdict. Whether a whole head stands somewhere is no test on lists, so no verdict is
+-- named; an equation on lists that follows from each verdict follows from this.
+abbrev pub HasVerdict : ℕ → Option ℕ → List ℕ → Type 0
+HasVerdict from known reply = ((v : Verdict) → IsVerdict from known reply v → ⊥) → ⊥
+
+-- Each reply has one.
+abbrev pub EachHasVerdict : Type 0
+EachHasVerdict = (from : ℕ) (known : Option ℕ) (reply : List ℕ) → HasVerdict from known reply
+
 -- A whole honest reply gives all bytes from the place on, and the total, where they are not too many, the place is in
 -- them, and no other total is known.
 abbrev pub GivesWhole : Type 0

@@ -4,32 +4,43 @@ ghost use Rattle.http_reply.specs.Heads.{heads_room, Steps, again, ends, final, 
 ghost use Rattle.std.specs.List.{prefix_len};
 ghost use Rattle.httparse.specs.Pieces.{is_newline};
 
-use httparse::Status;
 use httparse::spans::{HeaderSpan, ResponseSpans, parse_response};
+use httparse::{Error, Status};
 
 /// What comes next in the heads.
 #[derive(Clone, Copy)]
 pub enum HeadNext {
+    /// No whole head is at hand, and more bytes may come.
     More,
+    /// The same, and no bytes that may come make a head of those at hand.
+    Never,
+    /// A head has more fields than there is room for, which is not the whole room of 32,768.
+    Crowded,
+    /// An informational head (1xx) is passed over; the next one begins there.
     Again { at: usize },
+    /// The final head, and where the body begins.
     Final { spans: ResponseSpans, at: usize },
+    /// What stands there begins no head.
     Bad { at: usize },
+    /// The heads are too long, or one has over 128 fields.
     Long,
+    /// The reply ends before its final head.
     Short,
 }
 
 /// The next step through the heads of a reply, of which these bytes came, and no more will where it has ended.
+/// Room for 129 fields is enough for each head that is not too long; only a head of more fields is crowded.
 pub fn next_head(came: &[u8], at: usize, ended: bool, headers: &mut [HeaderSpan]) -> HeadNext
     requires within { at ≤ length came.now }
     requires fits { length came.now ≤ heads_room }
-    requires headers { length headers.old ≡ 32768 }
     ensures shows { HeadShows came.now at ended headers.new result }
 {
     let (_, window) = came.split_at(at);
     match parse_response(window, headers) {
         Ok(Status::Complete(spans)) => whole_head(at, spans),
-        Ok(Status::Partial) => no_head(came, at, ended),
-        Err(_) => no_head(came, at, ended),
+        Ok(Status::Partial) => no_head(came, at, ended, HeadNext::More),
+        Err(Error::TooManyHeaders) => HeadNext::Crowded,
+        Err(_) => no_head(came, at, ended, HeadNext::Never),
     }
 }
 
@@ -56,14 +67,14 @@ fn is_informal(code: u16) -> bool
     code >= 100 && code < 200
 }
 
-/// What is said where no whole head stands.
-fn no_head(came: &[u8], at: usize, ended: bool) -> HeadNext
+/// What is said where no whole head stands: `waits`, where more bytes may come.
+fn no_head(came: &[u8], at: usize, ended: bool, waits: HeadNext) -> HeadNext
     requires within { at ≤ length came.now }
     requires fits { length came.now ≤ heads_room }
-    ensures { result ≡ none_next came.now at ended }
+    ensures { result ≡ none_next came.now at ended waits }
 {
     if !ended && came.len() < 65_536 {
-        return HeadNext::More;
+        return waits;
     }
     if !begins_head(&came[at..]) {
         return HeadNext::Bad { at };

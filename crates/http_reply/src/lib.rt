@@ -20,7 +20,10 @@ pub use chunk_line::LineRead;
 pub use chunks::Chunks;
 pub use heads::{HeadNext, next_head};
 pub use judged::Judged;
-pub use laws::{honest_reply_gives_the_whole, one_verdict, truthful_reply_gives_the_truth};
+pub use laws::{
+    each_reply_has_a_verdict, honest_reply_gives_the_whole, one_verdict,
+    truthful_reply_gives_the_truth,
+};
 pub use part::Part;
 pub use piece_fault::PieceFault;
 pub use plan::Plan;

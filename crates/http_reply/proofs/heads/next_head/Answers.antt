@@ -1,8 +1,11 @@
-use Rattle.std.proofs.Common.{◌≡◌, ◌≤◌, ℕ, List, [], length, drop, ap, ◌∙◌, arith, append-nil, subst, length-drop, Err}
-use Rattle.httparse.specs.Grammar.{ResponseHead, HasNoResponse}
+use Rattle.std.proofs.Common.{◌≡◌, ◌≢◌, refl, rules, sym, ◌≤◌, ℕ, List, [], length, drop, ap, ◌∙◌, arith, append-nil, subst, length-drop, Err}
+use Rattle.std.proofs.lemmas.Grind.{common_steps}
+use Rattle.httparse.specs.Grammar.{ResponseHead, ReadsResponse, HasNoResponse, NeverHasResponse}
+use Rattle.httparse.specs.declared.Error.TheVariants.{TooManyHeaders}
 use Rattle.httparse.specs.Spans.{IsResponseAt, IsResponseWithin}
 use Rattle.http_reply.specs.Heads.{heads_room}
-use Rattle.http_reply.proofs.HeadLemmas.{shows_whole, shows_none, no_excess}
+use Rattle.http_reply.proofs.HeadLemmas.{shows_whole, shows_none, shows_crowded}
+use Rattle.http_reply.specs.declared.heads.HeadNext.TheVariants.{More, Never}
 use Rattle.http_reply.proofs.heads.next_head.Goals as goal
 
 pub returns-in-Ok-Complete : goal.returns-in-Ok-Complete
@@ -18,14 +21,18 @@ pub returns-in-Ok-Partial : goal.returns-in-Ok-Partial
 returns-in-Ok-Partial c =
     let said = rw c.in-Ok-Partial.field-0-is at c.in-Ok-Partial.ensures in
     let none = subst HasNoResponse c.split_at.ensures.back said.partial in
-    record { shows = rw c.no_head.ensures (shows_none c.args.came.now c.args.at c.args.ended c.parse_response.new.headers c.requires.within c.requires.fits none) }
+    record { shows = rw c.no_head.ensures (shows_none c.args.came.now c.args.at c.args.ended c.parse_response.new.headers More c.requires.within c.requires.fits none (λ more less. (more, less, none))) }
+
+pub returns-in-Err-TooManyHeaders : goal.returns-in-Err-TooManyHeaders
+returns-in-Err-TooManyHeaders c =
+    let said = rw c.in-Err-TooManyHeaders.field-0-is at c.in-Err-TooManyHeaders.ensures in
+    let came = rw c.split_at.ensures.back at (said.too_many refl) in
+    let crowded = rw (sym c.parse_response.auto.headers) at came in
+    record { shows = shows_crowded c.args.came.now c.args.at c.args.ended c.parse_response.new.headers c.requires.fits crowded }
 
 pub returns-in-Err : goal.returns-in-Err
 returns-in-Err c =
-    let back = c.split_at.ensures.back in
-    let window = c.split_at.result.1.now in
-    let size : length window ≡ length (drop c.args.at c.args.came.now) = ap length back in
-    let fits : length window ≤ heads_room = omega (arith, length-drop c.args.at c.args.came.now) in
-    let never = c.in-Err.ensures.invalid (λ is. no_excess window fits (rw c.requires.headers at (c.in-Err.ensures.too_many (ap Err is)))) in
-    let none = subst HasNoResponse back (λ h rest reads. never [] h rest (reads.0, append-nil window ∙ reads.1)) in
-    record { shows = rw c.no_head-in-Err.ensures (shows_none c.args.came.now c.args.at c.args.ended c.parse_response.new.headers c.requires.within c.requires.fits none) }
+    let other : c.in-Err.field-0 ≢ TooManyHeaders = λ is. absurd (grind (arith, common_steps)) in
+    let never = subst NeverHasResponse c.split_at.ensures.back (c.in-Err.ensures.invalid other) in
+    let none = λ (h : ResponseHead) (rest : List ℕ) (reads : ReadsResponse (drop c.args.at c.args.came.now) h rest). never [] h rest (reads.0, append-nil (drop c.args.at c.args.came.now) ∙ reads.1) in
+    record { shows = rw c.no_head-in-Err.ensures (shows_none c.args.came.now c.args.at c.args.ended c.parse_response.new.headers Never c.requires.within c.requires.fits none (λ more less. (more, less, never))) }
