@@ -15,6 +15,9 @@ use Rattle.httparse.specs.declared.spans.HeaderSpan.{HeaderSpan}
 use Rattle.httparse.specs.declared.spans.ResponseSpans.{ResponseSpans}
 use Rattle.http_reply.proofs.ContentLemmas.{take_past}
 
+pub false_true : false ≡ true → ⊥
+false_true e = absurd (cc)
+
 pub stands_unique : (bytes : List ℕ) (s t : Standing) → StandsAt bytes s → StandsAt bytes t → s ≡ t
 stands_unique bytes (whole h m) (whole k n) x y =
     let same = response_unique bytes h k (drop m bytes) (drop n bytes) x.0 y.0 in

@@ -18,7 +18,7 @@ use Rattle.http_reply.specs.Chunked.{chunks, chunk_line, in_data, after_data, li
 use Rattle.http_reply.specs.Fields.{Fields, fields_of, is_encoded, is_chunked, has_no_length_but, length_told, content_range}
 use Rattle.http_reply.specs.Heads.{whole, StandsAt, heads_at, heads_room, final, Heads, stop, go, is_informal}
 use Rattle.http_reply.specs.Verdict.{Verdict, IsVerdict, heads_verdict, judge, judged_verdict, plan_verdict, total_fault, changes, accept, ranged_end, ranged_content}
-use Rattle.http_reply.specs.Truth.{Chunk, IsChunk, print_chunk, IsChunkedBody, IsBody, HasHeads, Answers, IsHonest}
+use Rattle.http_reply.specs.Truth.{Chunk, IsChunk, print_chunk, IsChunkedBody, IsBody, IsPartBody, HasHeads, Answers, IsHonest}
 use Rattle.http_reply.proofs.ContentLemmas.{take_past, drop_past, in_data-long}
 use Rattle.http_reply.proofs.ChunkedLemmas.{line_last, line_data}
 use Rattle.http_reply.proofs.HeadLemmas.{heads_unique}
@@ -208,7 +208,7 @@ ranged_whole bytes from content within is =
     let sum = eq-eqb (from + count) (length bytes) (omega arith) in
     rw is (rw (all, enough, sum) refl)
 
-part_content_is : (bytes body : List ℕ) (from at : ℕ) (fields : Fields) → IsBody fields (drop from bytes) body → length bytes ≤ limit → from ≤ length bytes
+part_content_is : (bytes body : List ℕ) (from at : ℕ) (fields : Fields) → IsPartBody fields (drop from bytes) body → length bytes ≤ limit → from ≤ length bytes
     → ranged_content (is_chunked fields) (length bytes - from) at body ≡ record { bytes = drop from bytes; stop = Last }
 part_content_is bytes body from at fields (inl b) fits within =
     let size : length bytes - from ≡ length (drop from bytes) = sym (length-drop from bytes) in

@@ -17,7 +17,7 @@ use Rattle.http_reply.specs.Chunked.{chunks}
 use Rattle.http_reply.specs.Fields.{Fields, fields_of, is_encoded, is_chunked, has_no_length_but, length_told, content_range}
 use Rattle.http_reply.specs.Heads.{HeadsEnd, final, bad, long, short, Heads}
 use Rattle.http_reply.specs.Verdict.{Verdict, IsVerdict, heads_verdict, judge, judged_verdict, plan_verdict, refuse, accept, refuse_or, total_fault, changes, total_end, sized_end, got_after, chunked_verdict, ranged_end, ranged_content}
-use Rattle.http_reply.specs.Truth.{print_chunk, IsBody, IsChunkedBody, Answers, IsTruthful}
+use Rattle.http_reply.specs.Truth.{print_chunk, IsBody, IsPartBody, IsChunkedBody, Answers, IsTruthful}
 use Rattle.http_reply.specs.Laws.{IsTrueOf}
 use Rattle.http_reply.proofs.ContentLemmas.{drop_past}
 use Rattle.http_reply.proofs.HeadLemmas.{heads_unique}
@@ -177,7 +177,7 @@ true_200 bytes came more from at known fields plain (inr b) =
     true_judged (Some bytes) from known at came (judge from known 200 fields) (accept None (plan.Whole None)) (judged_chunked from known fields plain b.chunked)
     (true_chunked bytes from known content.bytes content.stop (chunked_came fields bytes came more at b))
 
-part_came : (bytes came more : List ℕ) (from at : ℕ) (fields : Fields) → from ≤ length bytes → IsBody fields (drop from bytes) (came ++ more)
+part_came : (bytes came more : List ℕ) (from at : ℕ) (fields : Fields) → from ≤ length bytes → IsPartBody fields (drop from bytes) (came ++ more)
     → Fronts (drop from bytes) (ranged_content (is_chunked fields) (length bytes - from) at came)
 part_came bytes came more from at fields within (inl b) =
     let size : length bytes - from ≡ length (drop from bytes) = sym (length-drop from bytes) in

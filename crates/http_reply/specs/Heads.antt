@@ -8,7 +8,7 @@ use Rattle.httparse.specs.declared.spans.ResponseSpans.{ResponseSpans}
 use Rattle.httparse.specs.Spans.{IsResponseAt, IsResponseWithin, ResponseExceeds}
 use Rattle.std.specs.Prelude.{IsFalse}
 use Rattle.http_reply.specs.declared.heads.HeadNext.{HeadNext}
-use Rattle.http_reply.specs.declared.heads.HeadNext.TheVariants.{More, Never, Crowded, Again, Final, Bad, Long, Short}
+use Rattle.http_reply.specs.declared.heads.HeadNext.TheVariants.{More, Crowded, Again, Final, Bad, Long, Short}
 
 -- so much of a reply is read for its heads
 abbrev pub heads_room : ℕ
@@ -72,10 +72,11 @@ abbrev pub fields_room : ℕ
 fields_room = 32768
 
 -- What a step shows of the heads, whatever comes later. More bytes are waited for only where no whole head is at hand,
--- and a head is called crowded only where it has more fields than there is room for, and this is not the whole room.
+-- and where no bytes can follow that make one, that is told only then. A head is called crowded only where it has more
+-- fields than there is room for, and this is not the whole room.
 abbrev pub HeadShows : List ℕ → ℕ → Bool → List HeaderSpan → HeadNext → Type 0
-HeadShows came at ended headers More = IsFalse ended × (length came < heads_room) × HasNoResponse (drop at came)
-HeadShows came at ended headers Never = IsFalse ended × (length came < heads_room) × NeverHasResponse (drop at came)
+HeadShows came at ended headers (More never) =
+    IsFalse ended × (length came < heads_room) × HasNoResponse (drop at came) × (IsTrue never → NeverHasResponse (drop at came))
 HeadShows came at ended headers Crowded = (length headers < fields_room) × ResponseExceeds (length headers) (drop at came)
 HeadShows came at ended headers (Again next) = (at < next) × (next ≤ length came) × Steps came at ended (again next)
 HeadShows came at ended headers (Final spans next) =

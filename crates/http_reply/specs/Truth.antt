@@ -50,13 +50,21 @@ pub record HasHeads (reply : List ℕ) (early : List ResponseHead) (head : Respo
   pub fits : length (flat_map print_response early ++ print_response head) ≤ heads_room
   pub reply_is : reply ≡ flat_map print_response early ++ print_response head ++ body
 
+-- the body of a part: its length is told by its range, and may be told once more
+pub record IsPlainBody (fields : Fields) (content text : List ℕ) : Type 0 where
+  pub not_chunked : IsFalse (is_chunked fields)
+  pub text_is : text ≡ content
+
+abbrev pub IsPartBody : Fields → List ℕ → List ℕ → Type 0
+IsPartBody fields content text = IsPlainBody fields content text ⊎ IsChunkedBody fields content text
+
 -- what a server that has these bytes answers from `from` on
 abbrev pub Answers : List ℕ → ℕ → ResponseHead → List ℕ → Type 0
 Answers bytes from head body =
     let fields = fields_of head in
     ((status_code head ≡ 200) × IsBody fields bytes body)
     ⊎ ((0 < from) × (from < length bytes) × (status_code head ≡ 206) × (content_range fields ≡ Part from (length bytes - 1) (length bytes))
-    × IsTrue (has_no_length_but (length bytes - from) fields) × IsBody fields (drop from bytes) body)
+    × IsTrue (has_no_length_but (length bytes - from) fields) × IsPartBody fields (drop from bytes) body)
     ⊎ ((0 < from) × (from ≡ length bytes) × (status_code head ≡ 416) × (content_range fields ≡ Past from))
 
 pub record IsHonest (bytes : List ℕ) (from : ℕ) (reply : List ℕ) : Type 0 where

@@ -10,10 +10,8 @@ use httparse::{Error, Status};
 /// What comes next in the heads.
 #[derive(Clone, Copy)]
 pub enum HeadNext {
-    /// No whole head is at hand, and more bytes may come.
-    More,
-    /// The same, and no bytes that may come make a head of those at hand.
-    Never,
+    /// No whole head is at hand, and more bytes may come; `never` tells that none of them can make one.
+    More { never: bool },
     /// A head has more fields than there is room for, which is not the whole room of 32,768.
     Crowded,
     /// An informational head (1xx) is passed over; the next one begins there.
@@ -38,9 +36,9 @@ pub fn next_head(came: &[u8], at: usize, ended: bool, headers: &mut [HeaderSpan]
     let (_, window) = came.split_at(at);
     match parse_response(window, headers) {
         Ok(Status::Complete(spans)) => whole_head(at, spans),
-        Ok(Status::Partial) => no_head(came, at, ended, HeadNext::More),
+        Ok(Status::Partial) => no_head(came, at, ended, HeadNext::More { never: false }),
         Err(Error::TooManyHeaders) => HeadNext::Crowded,
-        Err(_) => no_head(came, at, ended, HeadNext::Never),
+        Err(_) => no_head(came, at, ended, HeadNext::More { never: true }),
     }
 }
 

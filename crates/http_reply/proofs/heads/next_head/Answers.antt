@@ -1,11 +1,11 @@
-use Rattle.std.proofs.Common.{◌≡◌, ◌≢◌, refl, rules, sym, ◌≤◌, ℕ, List, [], length, drop, ap, ◌∙◌, arith, append-nil, subst, length-drop, Err}
+use Rattle.std.proofs.Common.{◌≡◌, ◌≢◌, true, false, refl, rules, sym, ◌≤◌, ℕ, List, [], length, drop, ap, ◌∙◌, arith, append-nil, subst, length-drop, Err}
 use Rattle.std.proofs.lemmas.Grind.{common_steps}
 use Rattle.httparse.specs.Grammar.{ResponseHead, ReadsResponse, HasNoResponse, NeverHasResponse}
 use Rattle.httparse.specs.declared.Error.TheVariants.{TooManyHeaders}
 use Rattle.httparse.specs.Spans.{IsResponseAt, IsResponseWithin}
 use Rattle.http_reply.specs.Heads.{heads_room}
-use Rattle.http_reply.proofs.HeadLemmas.{shows_whole, shows_none, shows_crowded}
-use Rattle.http_reply.specs.declared.heads.HeadNext.TheVariants.{More, Never}
+use Rattle.http_reply.proofs.HeadLemmas.{shows_whole, shows_none, shows_crowded, false_true}
+use Rattle.http_reply.specs.declared.heads.HeadNext.TheVariants.{More}
 use Rattle.http_reply.proofs.heads.next_head.Goals as goal
 
 pub returns-in-Ok-Complete : goal.returns-in-Ok-Complete
@@ -21,7 +21,7 @@ pub returns-in-Ok-Partial : goal.returns-in-Ok-Partial
 returns-in-Ok-Partial c =
     let said = rw c.in-Ok-Partial.field-0-is at c.in-Ok-Partial.ensures in
     let none = subst HasNoResponse c.split_at.ensures.back said.partial in
-    record { shows = rw c.no_head.ensures (shows_none c.args.came.now c.args.at c.args.ended c.parse_response.new.headers More c.requires.within c.requires.fits none (λ more less. (more, less, none))) }
+    record { shows = rw c.no_head.ensures (shows_none c.args.came.now c.args.at c.args.ended c.parse_response.new.headers (More false) c.requires.within c.requires.fits none (λ more less. (more, less, none, λ never. absurd (false_true never)))) }
 
 pub returns-in-Err-TooManyHeaders : goal.returns-in-Err-TooManyHeaders
 returns-in-Err-TooManyHeaders c =
@@ -35,4 +35,4 @@ returns-in-Err c =
     let other : c.in-Err.field-0 ≢ TooManyHeaders = λ is. absurd (grind (arith, common_steps)) in
     let never = subst NeverHasResponse c.split_at.ensures.back (c.in-Err.ensures.invalid other) in
     let none = λ (h : ResponseHead) (rest : List ℕ) (reads : ReadsResponse (drop c.args.at c.args.came.now) h rest). never [] h rest (reads.0, append-nil (drop c.args.at c.args.came.now) ∙ reads.1) in
-    record { shows = rw c.no_head-in-Err.ensures (shows_none c.args.came.now c.args.at c.args.ended c.parse_response.new.headers Never c.requires.within c.requires.fits none (λ more less. (more, less, never))) }
+    record { shows = rw c.no_head-in-Err.ensures (shows_none c.args.came.now c.args.at c.args.ended c.parse_response.new.headers (More true) c.requires.within c.requires.fits none (λ more less. (more, less, none, λ is. never))) }
