@@ -1,6 +1,6 @@
 -- From what was read and taken of a reply to its verdict.
 use Rattle.std.proofs.lemmas.List.{drop-append-le}
-use Rattle.std.proofs.Common.{◌≡◌, ◌≢◌, ◌+◌, ◌≤◌, length, length-drop, take, ℕ, List, [], ◌++◌, ◌⊎◌, refl, sym, ap, ◌∙◌, subst, arith, inl, true, false, not, Result, Ok, Err, Option, Some, None, drop}
+use Rattle.std.proofs.Common.{◌≡◌, ◌≢◌, ◌+◌, ◌≤◌, length, length-drop, take, ℕ, List, [], ◌++◌, ◌⊎◌, refl, sym, ap, ◌∙◌, subst, arith, inl, inr, Bool, true, false, not, Result, Ok, Err, Option, Some, None, drop}
 use Rattle.std.specs.Prelude.{IsTrue, IsFalse}
 use Rattle.std.specs.Option.{option_or}
 use Rattle.folder_base.specs.declared.store_fault.StoreFault.{StoreFault}
@@ -8,16 +8,16 @@ use Rattle.httparse.specs.Grammar.{ResponseHead, status_code}
 use Rattle.httparse.specs.Spans.{IsResponseWithin}
 use Rattle.httparse.specs.declared.spans.HeaderSpan.{HeaderSpan}
 use Rattle.http_reply.specs.declared.piece_fault.PieceFault.{PieceFault}
-use Rattle.http_reply.specs.declared.piece_fault.PieceFault.TheVariants.{Recv, Folder}
+use Rattle.http_reply.specs.declared.piece_fault.PieceFault.TheVariants.{Folder, OutOfMemory}
 use Rattle.http_reply.specs.declared.plan.Plan.{Plan}
 use Rattle.http_reply.specs.declared.judged.Judged.{Judged}
 use Rattle.http_reply.specs.Fields.{Fields, fields_of, fields_at}
 use Rattle.http_reply.specs.Heads.{HeadsEnd, Heads, final}
 use Rattle.http_reply.specs.Verdict.{Verdict, IsVerdict, heads_verdict, refused, judge, judged_verdict, plan_verdict}
 use Rattle.text_base.specs.declared.faults.FolderCall.{FolderCall}
-use Rattle.http_reply.specs.Faults.{Origin, of_asking, of_hearing, of_taking, of_url, of_reply, origin, breaks, replies, is_broken, is_cause, is_heard}
+use Rattle.http_reply.specs.Faults.{Origin, of_asking, of_hearing, of_taking, of_url, of_reply, origin, breaks, replies, hears, follows, is_broken, is_cause, is_heard, is_after_request}
 use Rattle.http_reply.proofs.VerdictLemmas.{verdict_unique}
-use Rattle.link_http.specs.Heads.{GivesHeads}
+use Rattle.link_http.specs.Heads.{GivesHeads, IsHeadsFault}
 use Rattle.link_http.specs.declared.final_head.FinalHead.{FinalHead}
 use Rattle.link_http.specs.declared.fetched.Fetched.{Fetched}
 use Rattle.link_http.specs.Taking.{is_judged, Broke, Takes, Tells, Follows}
@@ -29,8 +29,9 @@ or_none : (known : Option ℕ) → known ≡ option_or known None
 or_none (Some n) = refl
 or_none None = refl
 
-not_recv : (fault : PieceFault) → IsTrue (not (is_broken fault)) → fault ≢ Recv
-not_recv fault judged is = let e : false ≡ true = subst (λ (f : PieceFault). IsTrue (not (is_broken f))) is judged in absurd (cc)
+unbroken : (b : Bool) → not b ≡ true → b ≡ false
+unbroken true is = absurd (cc)
+unbroken false is = refl
 
 -- a head, and what it was judged to ask
 pub record HeadOf (from : ℕ) (known : Option ℕ) (reply : List ℕ) (at : ℕ) (j : Judged) : Type 0 where
@@ -46,8 +47,21 @@ verdict_by from known reply at j h = record {
   is = ap (λ (x : Judged). judged_verdict from known at (drop at reply) x.told x.plan) h.is;
 }
 
-not_folder : (fault : PieceFault) → IsTrue (is_heard fault) → (call : FolderCall) → fault ≢ Folder call
-not_folder fault heard call is = let e : false ≡ true = subst (λ (f : PieceFault). IsTrue (is_heard f)) is heard in absurd (cc)
+not_folder : (fault : PieceFault) → IsHeadsFault fault → (call : FolderCall) → fault ≢ Folder call
+not_folder fault (inr memory) call is = absurd (cc)
+not_folder fault (inl heard) call is = let e : false ≡ true = subst (λ (f : PieceFault). IsTrue (is_heard f)) is heard in absurd (cc)
+
+-- what the heads give comes behind a request
+heard_after : (o : Origin) → hears o ≡ true → follows o ≡ true
+heard_after of_asking e = absurd (cc)
+heard_after of_hearing e = refl
+heard_after of_taking e = absurd (cc)
+heard_after of_url e = absurd (cc)
+heard_after of_reply e = refl
+
+pub heads_after : (fault : PieceFault) → IsHeadsFault fault → IsTrue (is_after_request fault)
+heads_after fault (inl heard) = heard_after (origin fault) heard
+heads_after fault (inr memory) = ap (λ (f : PieceFault). is_after_request f) memory
 
 -- what a reply gives is no failed call
 no_break : (o : Origin) → replies o ≡ true → breaks o ≡ false
@@ -75,8 +89,8 @@ module _ {T : Type 0} (took : T → List ℕ → T → Type 0) (may_refuse : T �
   }
 
   -- The heads gave no final one.
-  pub follows_heads : ((s : T) → took s [] s) → (tells : Type 0) (from : ℕ) (known : Option ℕ) (reply : List ℕ) (fault : PieceFault) (t : T) → IsTrue (is_heard fault)
-      → (tells → fault ≢ Recv → (ending : HeadsEnd) × Heads reply 0 ending × ((k : Option ℕ) → heads_verdict from k reply ending ≡ refused fault))
+  pub follows_heads : ((s : T) → took s [] s) → (tells : Type 0) (from : ℕ) (known : Option ℕ) (reply : List ℕ) (fault : PieceFault) (t : T) → IsHeadsFault fault
+      → (tells → IsFalse (is_broken fault) → (ending : HeadsEnd) × Heads reply 0 ending × ((k : Option ℕ) → heads_verdict from k reply ending ≡ refused fault))
       → Follows took may_refuse tells from known reply (Err fault) t known t
   unfolding nothing_taken
   follows_heads none tells from known reply fault t heard gives = record {
@@ -84,11 +98,11 @@ module _ {T : Type 0} (took : T → List ℕ → T → Type 0) (may_refuse : T �
       [],
       none t,
       λ now.
-          let g = gives now (not_recv fault judged) in
+          let g = gives now (unbroken (is_broken fault) judged) in
           (refused fault, record { ending = g.0; heads = g.1; is = sym (g.2 known) }, refl, refl, or_none known),
     );
     broken = λ f is broken. (
-      nothing_taken none f t (not_folder f (subst (λ (x : PieceFault). IsTrue (is_heard x)) (err_is fault f is) heard)),
+      nothing_taken none f t (not_folder f (subst IsHeadsFault (err_is fault f is) heard)),
       λ now verdict is_verdict. ((verdict.bytes, refl), inl refl),
     );
   }

@@ -1,6 +1,7 @@
 -- Steps through the heads of a reply, of which some bytes came.
-use Rattle.std.proofs.Common.{◌≡◌, ℕ, ◌<◌, ◌≤◌, length, arith, List, [], ◌++◌, refl, sym, ap, ◌∙◌, subst, append-nil, Bool, true, false}
+use Rattle.std.proofs.Common.{◌≡◌, ℕ, ◌<◌, ◌≤◌, length, take, drop, arith, List, [], ◌++◌, refl, sym, ap, ◌∙◌, subst, append-nil, Bool, true, false}
 use Rattle.std.specs.Prelude.{IsTrue, IsFalse, not}
+use Rattle.std.proofs.lemmas.List.{take_all, drop_all}
 use Rattle.link_http.specs.Wire.{Wire, Fills, left}
 use Rattle.http_reply.specs.Heads.{Standing, StandsAt, heads_at, after_head, HeadStep, again, ends, HeadsEnd, Heads, stop, go, Steps}
 
@@ -42,3 +43,8 @@ pub grows_by : (more : Bool) (before after : List ℕ) → (IsTrue more → leng
     → length before ≤ length after
 grows_by true before after longer same = omega (arith, longer refl)
 grows_by false before after longer same = omega (arith, ap length (same refl))
+
+-- A slice that was lent whole is what its list is then.
+pub put_back : {A : Type 0} (len : ℕ) (new old : List A) → len ≡ length old → length new ≡ length old → take len (new ++ drop (length new) old) ≡ new
+put_back {A} len new old whole same =
+    ap (λ (d : List A). take len (new ++ d)) (drop_all (length new) old (omega arith)) ∙ ap (λ (l : List A). take len l) (append-nil new) ∙ take_all len new (omega arith)

@@ -299,7 +299,7 @@ part_honest bytes from some less fits =
         refl,
         part_range from n less fits,
         part_but from n fits,
-        inl (record { not_chunked = part_unchunked from n; told = part_sized from n fits ∙ ap Some (sym size); text_is = refl }),
+        inl (record { not_chunked = part_unchunked from n; text_is = refl }),
       ));
     }
 

@@ -1,6 +1,9 @@
 pub mod WireLemmas
 pub mod SendLemmas
 pub mod HeadsLemmas
+pub mod HeadLineLemmas
+pub mod PairedLemmas
+pub mod TurnLemmas
 pub mod TakingLemmas
 pub mod FollowLemmas
 pub mod BodyLemmas

@@ -1,5 +1,5 @@
 -- From a body that was poured to what it comes to.
-use Rattle.std.proofs.Common.{◌≡◌, ℕ, List, refl, sym, ap, ◌∙◌, subst, inl, inr, Bool, true, false, not, Result, Err, Option, Some, None, drop, take}
+use Rattle.std.proofs.Common.{◌≡◌, ℕ, List, refl, sym, ap, ◌∙◌, subst, inl, inr, Bool, true, false, not, Result, Ok, Err, Option, Some, None, drop, take}
 use Rattle.std.specs.Prelude.{if◌then◌else◌}
 use Rattle.http_reply.specs.declared.stop.Stop.{Stop}
 use Rattle.http_reply.specs.declared.stop.Stop.TheVariants.{Last, Cut, Bad, Long}
@@ -10,7 +10,7 @@ use Rattle.http_reply.specs.declared.part.Part.TheVariants as part
 use Rattle.http_reply.specs.Machine.{content_of}
 use Rattle.http_reply.specs.Chunked.{chunks as chunked_content}
 use Rattle.http_reply.specs.Verdict.{plan_verdict, chunked_verdict}
-use Rattle.std.specs.Prelude.{IsTrue, IsErrOf}
+use Rattle.std.specs.Prelude.{IsTrue}
 use Rattle.folder_base.specs.declared.store_fault.StoreFault.{StoreFault}
 use Rattle.folder_base.specs.declared.store_fault.StoreFault.TheVariants as store
 use Rattle.http_reply.specs.declared.piece_fault.PieceFault.{PieceFault}
@@ -21,18 +21,31 @@ use Rattle.link_http.specs.declared.body_end.BodyEnd.{BodyEnd}
 use Rattle.link_http.specs.declared.body_fault.BodyFault.{BodyFault}
 use Rattle.link_http.specs.declared.body_fault.BodyFault.TheVariants as body
 use Rattle.link_http.specs.Wire.{Wire, Counts}
-use Rattle.link_http.specs.Body.{At, to_come, Ends, Fails, IsHeard, RefusedBy, Poured}
-use Rattle.link_http.specs.Taking.{is_judged, as_end, of_body, IsRefusal, Takes}
-use Rattle.http_reply.specs.Faults.{is_broken}
+use Rattle.link_http.specs.Body.{At, to_come, Ends, Fails, is_unheard, RefusedBy, Poured}
+use Rattle.link_http.specs.Taking.{names_call, is_judged, as_end, of_body, IsRefusal, Takes}
+use Rattle.http_reply.specs.Faults.{is_broken, is_call}
 use Rattle.link_http.proofs.WireLemmas.{counts_as}
+use Rattle.http_reply.specs.Faults.{Origin, of_asking, of_hearing, of_taking, of_url, of_reply, origin, breaks, dials}
 
 pub broken_of : (fault : BodyFault) → is_broken (of_body fault) ≡ true
 broken_of body.Recv = refl
 broken_of (body.Store (store.Folder call)) = refl
 broken_of (body.Store store.OutOfMemory) = refl
 
-pub judged_not_recv : (result : Result Fetched PieceFault) → IsTrue (is_judged result) → IsErrOf result piece.Recv → ⊥
-judged_not_recv result judged is = let e : false ≡ true = subst (λ (r : Result Fetched PieceFault). IsTrue (is_judged r)) is judged in absurd (cc)
+-- what breaks no try is no failed call
+no_call : (o : Origin) → not (breaks o) ≡ true → dials o ≡ false
+no_call of_asking e = absurd (cc)
+no_call of_hearing e = absurd (cc)
+no_call of_taking e = refl
+no_call of_url e = refl
+no_call of_reply e = refl
+
+judged_heard : (result : Result Fetched PieceFault) → IsTrue (is_judged result) → names_call result ≡ false
+judged_heard (Ok fetched) judged = refl
+judged_heard (Err fault) judged = no_call (origin fault) judged
+
+pub counts_judged : (result : Result Fetched PieceFault) (old new : Wire) → IsTrue (is_judged result) → Counts old new false → Counts old new (names_call result)
+counts_judged result old new judged counts = counts_as old new false (names_call result) (judged_heard result judged) counts
 
 pub broken_not_judged : (result : Result Fetched PieceFault) (fault : PieceFault) → result ≡ Err fault → IsTrue (is_broken fault) → IsTrue (is_judged result) → ⊥
 broken_not_judged result fault is broken judged =
@@ -43,11 +56,10 @@ err_same : (a b : PieceFault) → ◌≡◌ {A = Result Fetched PieceFault} (Err
 err_same a b e = cc
 
 -- The counts, by the answer.
-pub counts_broken : (fault : BodyFault) (old new : Wire) → Counts old new (IsHeard {A = BodyEnd} (Err fault)) (IsErrOf {T = BodyEnd} (Err fault) body.Recv)
-    → Counts old new (IsErrOf {T = Fetched} (Err (of_body fault)) piece.Recv → ⊥) (IsErrOf {T = Fetched} (Err (of_body fault)) piece.Recv)
-counts_broken body.Recv old new counts = counts_as old new _ _ _ _ (λ none. absurd (none refl)) (λ _. refl) counts
-counts_broken (body.Store (store.Folder call)) old new counts = counts_as old new _ _ _ _ (λ _. tt) (λ is. absurd (cc)) counts
-counts_broken (body.Store store.OutOfMemory) old new counts = counts_as old new _ _ _ _ (λ _. tt) (λ is. absurd (cc)) counts
+pub counts_broken : (fault : BodyFault) (old new : Wire) → Counts old new (is_unheard {A = BodyEnd} (Err fault)) → Counts old new (names_call {A = Fetched} (Err (of_body fault)))
+counts_broken body.Recv old new counts = counts
+counts_broken (body.Store (store.Folder call)) old new counts = counts
+counts_broken (body.Store store.OutOfMemory) old new counts = counts
 
 module _ {T : Type 0} (took : T → List ℕ → T → Type 0) (may_refuse : T → List ℕ → StoreFault → Type 0) where
   refusal_of : (fault : BodyFault) (between : T) (bytes : List ℕ) → RefusedBy took may_refuse fault between bytes

@@ -20,9 +20,10 @@ use Rattle.link_http.specs.declared.fetched.Fetched.{Fetched}
 use Rattle.link_http.specs.Request.{Address, Place, request}
 use Rattle.link_http.specs.Wire.{Wire, Counts, Dials, AsksNothing, IsServed, left}
 use Rattle.link_http.specs.Sending.{Asked}
-use Rattle.link_http.specs.Taking.{Broke, Keeps, Follows}
-use Rattle.link_http.specs.Try.{DialsOnce, Asks, Answers, Tries, Talks, Fetches, IsStill, OfAddress, NeverRefuses, IsThere, names_call}
-use Rattle.link_http.proofs.WireLemmas.{counts_as, counts_none}
+use Rattle.folder_base.specs.declared.store_fault.StoreFault.TheVariants as store
+use Rattle.link_http.specs.Try.{RefusesOnlyMemory}
+use Rattle.link_http.specs.Taking.{names_call, of_store, Broke, Keeps, Follows}
+use Rattle.link_http.specs.Try.{DialsOnce, Asks, Answers, Tries, Talks, DialsAndTalks, Fetches, OfAddress, IsThere}
 use Rattle.link_http.proofs.FollowLemmas.{nothing_taken}
 
 err_addr : (a b : PieceFault) → ◌≡◌ {A = Result Address PieceFault} (Err a) (Err b) → a ≡ b
@@ -32,25 +33,6 @@ true_false : true ≡ false → ⊥
 true_false e = absurd (cc)
 
 -- ---- faults
-
--- of the calls behind a request only `recv` is the dialer's
-after_call : (fault : PieceFault) → IsTrue (is_after_request fault) → IsTrue (is_call fault) → fault ≡ Recv
-after_call Dial after call = absurd (cc)
-after_call Send after call = absurd (cc)
-after_call Recv after call = refl
-after_call (Folder c) after call = absurd (cc)
-after_call OutOfMemory after call = absurd (cc)
-after_call Url after call = absurd (cc)
-after_call Scheme after call = absurd (cc)
-after_call (Status code) after call = absurd (cc)
-after_call (CutShort got told) after call = absurd (cc)
-after_call (BadHead at) after call = absurd (cc)
-after_call HeadLong after call = absurd (cc)
-after_call NoLength after call = absurd (cc)
-after_call (BadRange asked told) after call = absurd (cc)
-after_call (SizeChanged before now) after call = absurd (cc)
-after_call Encoded after call = absurd (cc)
-after_call (PieceLong told) after call = absurd (cc)
 
 pub after_origin : (fault : PieceFault) → IsTrue (is_after_request fault) → origin fault ≢ of_url
 after_origin Dial after is = absurd (cc)
@@ -87,67 +69,18 @@ pub asking_origin : (fault : PieceFault) → IsAsking fault → origin fault ≢
 asking_origin fault (inl send) is = let e : of_asking ≡ of_url = sym (ap (λ (f : PieceFault). origin f) send) ∙ is in absurd (cc)
 asking_origin fault (inr memory) is = let e : of_taking ≡ of_url = sym (ap (λ (f : PieceFault). origin f) memory) ∙ is in absurd (cc)
 
--- ---- counts
-
-pub counts_asking : (fault : PieceFault) (old new : Wire) → IsAsking fault
-    → Counts old new (IsOk {T = ⊤} (Err fault)) (IsErrOf {T = ⊤} (Err fault) Send)
-    → Counts old new (IsStill (Err fault)) (IsTrue (names_call (Err fault)))
-counts_asking fault old new (inl send) counts =
-    counts_as old new _ _ _ _ (λ still. absurd (still (inl (ap (λ (f : PieceFault). is_call f) send)))) (λ call. ap Err send) counts
-counts_asking fault old new (inr memory) counts =
-    counts_as old new _ _ _ _ (λ still. absurd (still (inr (ap Err memory))))
-    (λ call. absurd (true_false (sym call ∙ ap (λ (f : PieceFault). is_call f) memory))) counts
-
-named_recv : (result : Result Fetched PieceFault) → IfErr result (λ fault. IsTrue (is_after_request fault)) → IsTrue (names_call result) → result ≡ Err Recv
-named_recv (Ok fetched) after call = absurd (true_false (sym call))
-named_recv (Err fault) after call = ap Err (after_call fault after call)
-
-pub counts_after : (result : Result Fetched PieceFault) (old new : Wire) → IfErr result (λ fault. IsTrue (is_after_request fault))
-    → Counts old new (IsErrOf result Recv → ⊥) (IsErrOf result Recv)
-    → Counts old new (IsStill result) (IsTrue (names_call result))
-counts_after result old new after counts =
-    counts_as old new _ _ _ _ (λ still is. still (inl (ap names_call is))) (named_recv result after) counts
-
--- A last call that does not fail.
-pub counts_then : (first between last : Wire) (good failed : Type 0) → Counts first between good failed → Counts between last (Unit {0}) ⊥
-    → Counts first last good failed
-counts_then first between last good failed a b =
-    let same : last.faults ≡ between.faults = b.still tt in
-    record {
-      never_falls = omega (arith, a.never_falls, b.never_falls);
-      rises = λ f. subst (λ n. Rose first.faults n) (sym same) (a.rises f);
-      still = λ g. same ∙ a.still g;
-      steady = λ s. b.steady (a.steady s);
-      no_fault = a.no_fault;
-      serves = λ s. b.serves (a.serves s);
-      tells = λ s. a.tells (b.tells s);
-    }
-
--- Nothing was called.
-pub counts_early : (fault : PieceFault) (wire : Wire) → is_call fault ≡ false → Counts wire wire (IsStill (Err fault)) (IsTrue (names_call (Err fault)))
-counts_early fault wire none = counts_none wire _ _ (λ call. true_false (sym call ∙ none))
-
 -- ---- the dial
 
-pub dials_talked : (r : Result ⊤ FolderFault) (host : List ℕ) (port : ℕ) (old now new : Wire) → IsOk r → Dials host port old now r → new.dials ≡ now.dials
-    → DialsOnce (record { host = host; port = port }) old new
-dials_talked r host port old now new ok dials same = elim dials.dials [
-  | inl one ↦ inr (same ∙ one)
+pub dials_talked : (r : Result ⊤ FolderFault) (host : List ℕ) (port : ℕ) (old now new : Wire) (replies : List (List ℕ)) → IsOk r → Dials host port old now r → new.dials ≡ now.dials
+    → DialsOnce (record { host = host; port = port }) replies old new
+dials_talked r host port old now new replies ok dials same = elim dials.dials [
+  | inl one ↦ inl (same ∙ one)
   | inr none ↦ let no_ : IsOk {T = ⊤} {E = FolderFault} (Err memory.OutOfMemory) = subst (λ (x : Result ⊤ FolderFault). IsOk x) none.0 ok in absurd (true_false (sym no_))
 ]
 
 pub dials_ended : (r : Result ⊤ FolderFault) (host : List ℕ) (port : ℕ) (old new : Wire) → Dials host port old new r
-    → DialsOnce (record { host = host; port = port }) old new
-dials_ended r host port old new dials = elim dials.dials [ inl one ↦ inr one | inr none ↦ inl none.1 ]
-
-pub counts_dial : (old new : Wire) → Counts old new (IsOk {T = ⊤} (Err memory.Failed)) (IsErrOf {T = ⊤} (Err memory.Failed) memory.Failed)
-    → Counts old new (IsStill (Err Dial)) (IsTrue (names_call (Err Dial)))
-counts_dial old new counts = counts_as old new _ _ _ _ (λ still. absurd (still (inl refl))) (λ call. refl) counts
-
-pub counts_memory : (old new : Wire) → Counts old new (IsOk {T = ⊤} (Err memory.OutOfMemory)) (IsErrOf {T = ⊤} (Err memory.OutOfMemory) memory.Failed)
-    → Counts old new (IsStill (Err OutOfMemory)) (IsTrue (names_call (Err OutOfMemory)))
-counts_memory old new counts =
-    counts_as old new _ _ _ _ (λ still. absurd (still (inr refl))) (λ call. absurd (true_false (sym call))) counts
+    → DialsOnce (record { host = host; port = port }) [] old new
+dials_ended r host port old new dials = elim dials.dials [ inl one ↦ inl one | inr none ↦ inr (refl, none.1) ]
 
 pub known_same : (known : Option ℕ) → IfSome known (λ total. known ≡ Some total)
 known_same None = tt
@@ -155,25 +88,25 @@ known_same (Some n) = refl
 
 -- ---- what was asked
 
-pub asks_none : (place : Place) (text : List ℕ) (old new : Wire) → new.world ≡ old.world → new.talks ≡ old.talks → Asks place text old new []
-asks_none place text old new world talks = record {
+pub asks_none : (place : Place) (dial : ℕ) (text : List ℕ) (old new : Wire) → new.world ≡ old.world → new.talks ≡ old.talks → Asks place dial text old new []
+asks_none place dial text old new world talks = record {
   world = world;
   talks = talks ∙ sym (append-nil old.talks);
   once = inl refl;
   served = λ serves. All-nil (IsServed old.world place text);
 }
 
-pub asks_one : (place : Place) (text : List ℕ) (old now new : Wire) → Asked place text old now → AsksNothing now new → Asks place text old new (left now ∷ [])
-asks_one place text old now new asked nothing = record {
+pub asks_one : (place : Place) (dial : ℕ) (text : List ℕ) (old now new : Wire) → Asked place dial text old now → AsksNothing now new → Asks place dial text old new (left now ∷ [])
+asks_one place dial text old now new asked nothing = record {
   world = nothing.world ∙ asked.world;
   talks = nothing.talks ∙ asked.talks;
   once = inr (left now, refl);
   served = λ serves. All-cons (IsServed old.world place text) (left now) [] (asked.served serves) (All-nil (IsServed old.world place text));
 }
 
-pub asks_then : (place : Place) (text : List ℕ) (old now new : Wire) (replies : List (List ℕ)) → Asks place text old now replies → AsksNothing now new
-    → Asks place text old new replies
-asks_then place text old now new replies asks nothing = record {
+pub asks_then : (place : Place) (dial : ℕ) (text : List ℕ) (old now new : Wire) (replies : List (List ℕ)) → Asks place dial text old now replies → AsksNothing now new
+    → Asks place dial text old new replies
+asks_then place dial text old now new replies asks nothing = record {
   world = nothing.world ∙ asks.world;
   talks = nothing.talks ∙ asks.talks;
   once = asks.once;
@@ -181,11 +114,11 @@ asks_then place text old now new replies asks nothing = record {
 }
 
 -- Nothing was asked before.
-pub asks_first : (place : Place) (text : List ℕ) (old now new : Wire) (replies : List (List ℕ)) → now.world ≡ old.world → now.talks ≡ old.talks
-    → (IsTrue old.serves → IsTrue now.serves) → Asks place text now new replies → Asks place text old new replies
-asks_first place text old now new replies world talks serves asks = record {
+pub asks_first : (place : Place) (dial : ℕ) (text : List ℕ) (old now new : Wire) (replies : List (List ℕ)) → now.world ≡ old.world → now.talks ≡ old.talks
+    → (IsTrue old.serves → IsTrue now.serves) → Asks place dial text now new replies → Asks place dial text old new replies
+asks_first place dial text old now new replies world talks serves asks = record {
   world = asks.world ∙ world;
-  talks = asks.talks ∙ ap (λ t. t ++ map (λ reply. record { place = place; request = text; reply = reply }) replies) talks;
+  talks = asks.talks ∙ ap (λ t. t ++ map (λ reply. record { place = place; dial = dial; request = text; reply = reply }) replies) talks;
   once = asks.once;
   served = λ s. subst (λ w. All (IsServed w place text) replies) world (asks.served (serves s));
 }
@@ -263,26 +196,26 @@ module _ {T : Type 0} (took : T → List ℕ → T → Type 0) (may_refuse : T �
   early_fetches none (Err cause) fault headers from wire known t (inl memory) = (inr (ap Err memory), record { world = refl; dials = refl; talks = refl }, none t, refl)
   early_fetches none (Err cause) fault headers from wire known t (inr is) = (inl (ap Err (sym (err_addr cause fault is))), record { world = refl; dials = refl; talks = refl }, none t, refl)
   early_fetches none (Ok to) fault headers from wire known t (inl memory) = (
-    inl refl,
-    ([], asks_none to.place (request to headers from) wire wire refl refl, (inr (inr memory), none t, refl)),
+    ([], asks_none to.place (length wire.dials) (request to headers from) wire wire refl refl, (inr (inr memory), none t, refl)),
+    inr (refl, refl),
   )
   early_fetches none (Ok to) fault headers from wire known t (inr is) = absurd (cc)
 
   pub fetches_by : (leads : Result Address PieceFault) (to : Address) (text : List ℕ) (headers : List Header) (from : ℕ) (old new : Wire) (known known' : Option ℕ)
       (result : Result Fetched PieceFault) (t u : T) → leads ≡ Ok to → text ≡ request to headers from
-      → DialsOnce to.place old new × Talks took may_refuse to.place text from old known result t new known' u
+      → DialsAndTalks took may_refuse to.place text from old known result t new known' u
       → Fetches took may_refuse leads headers from old known result t new known' u
   fetches_by leads to text headers from old new known known' result t u is same talked =
       subst (λ (l : Result Address PieceFault). Fetches took may_refuse l headers from old known result t new known' u) (sym is)
-      (talked.0, subst (λ (x : List ℕ). Talks took may_refuse to.place x from old known result t new known' u) same talked.1)
+      (subst (λ (x : List ℕ). DialsAndTalks took may_refuse to.place x from old known result t new known' u) same talked)
 
   pub fetches_then : (leads : Result Address PieceFault) (result : Result Fetched PieceFault) (headers : List Header) (from : ℕ) (old now new : Wire) (known known' : Option ℕ) (t u : T)
       → AsksNothing now new → Fetches took may_refuse leads headers from old known result t now known' u → Fetches took may_refuse leads headers from old known result t new known' u
   fetches_then (Err cause) result headers from old now new known known' t u nothing f =
       (f.0, record { world = nothing.world ∙ f.1.world; dials = nothing.dials ∙ f.1.dials; talks = nothing.talks ∙ f.1.talks }, f.2, f.3)
   fetches_then (Ok to) result headers from old now new known known' t u nothing f = (
-    elim f.0 [ inl none ↦ inl (nothing.dials ∙ none) | inr one ↦ inr (nothing.dials ∙ one) ],
-    (f.1.0, asks_then to.place (request to headers from) old now new f.1.0 f.1.1 nothing, f.1.2),
+    (f.0.0, asks_then to.place (length old.dials) (request to headers from) old now new f.0.0 f.0.1 nothing, f.0.2),
+    elim f.1 [ inl one ↦ inl (nothing.dials ∙ one) | inr none ↦ inr (none.0, nothing.dials ∙ none.1) ],
   )
 
 pub early_address : (leads : Result Address PieceFault) (fault : PieceFault) → (fault ≡ OutOfMemory) ⊎ (leads ≡ Err fault) → OfAddress leads (Err fault)
@@ -325,7 +258,7 @@ err_ok fault n e = absurd (cc)
 
 -- the reply to a request for a resource that is there gives its total
 total_there : (old new : Wire) (url : List ℕ) (to : Address) (headers : List Header) (from : ℕ) (known : Option ℕ) (bytes reply : List ℕ) (replies : List (List ℕ)) (v : Verdict)
-    → IsThere old url to from known bytes → Asks to.place (request to headers from) old new (reply ∷ replies) → IsVerdict from known reply v
+    → IsThere old url to from known bytes → Asks to.place (length old.dials) (request to headers from) old new (reply ∷ replies) → IsVerdict from known reply v
     → v.end ≡ Ok (length bytes)
 total_there old new url to headers from known bytes reply replies v there asks is =
     let served = All-head (IsServed old.world to.place (request to headers from)) reply replies (asks.served there.serves) in
@@ -335,23 +268,26 @@ total_there old new url to headers from known bytes reply replies v there asks i
 module _ {T : Type 0} (took : T → List ℕ → T → Type 0) (may_refuse : T → List ℕ → StoreFault → Type 0) where
   -- no call failed, so the reply was heard
   unbroken : (result : Result Fetched PieceFault) (fault : PieceFault) (old new : Wire) (t u : T) → result ≡ Err fault
-      → Counts old new (IsStill result) (IsTrue (names_call result)) → Broke took may_refuse fault t u → IsTrue old.steady
-      → NeverRefuses may_refuse → result ≢ Err OutOfMemory → is_broken fault ≡ true → ⊥
+      → Counts old new (names_call result) → Broke took may_refuse fault t u → IsTrue old.steady
+      → RefusesOnlyMemory took may_refuse t → result ≢ Err OutOfMemory → is_broken fault ≡ true → ⊥
   unbroken result fault old new t u is counts broke steady never memory broken =
       elim (broken_by fault broken) [
-        | inl call ↦ counts.no_fault steady (ap names_call is ∙ call)
+        | inl call ↦ true_false (sym call ∙ sym (ap (λ (r : Result Fetched PieceFault). names_call r) is) ∙ counts.no_fault steady)
         | inr (inl out) ↦ memory (is ∙ ap Err out)
-        | inr (inr store) ↦ elim broke.why [
-          | inl why ↦ why.1 store.0 store.1
-          | inr why ↦ never broke.between broke.piece why.0 why.2
+        | inr (inr folder) ↦ elim broke.why [
+          | inl why ↦ why.1 folder.0 folder.1
+          | inr why ↦
+              let only : why.0 ≡ store.OutOfMemory = never broke.bytes broke.between broke.taken broke.piece why.0 why.2 in
+              let out : fault ≡ OutOfMemory = why.1 ∙ ap of_store only in
+              memory (is ∙ ap Err out)
         ]
       ]
 
   by_replies : (to : Address) (url : List ℕ) (headers : List Header) (from : ℕ) (old new : Wire) (known known' : Option ℕ) (result : Result Fetched PieceFault)
       (t u : T) (bytes : List ℕ) (replies : List (List ℕ))
-      → Counts old new (IsStill result) (IsTrue (names_call result)) → Keeps took may_refuse result t u
-      → Asks to.place (request to headers from) old new replies → Tries took may_refuse from known replies result t known' u
-      → IsThere old url to from known bytes → NeverRefuses may_refuse → result ≢ Err OutOfMemory → result ≡ Ok (record { total = length bytes })
+      → Counts old new (names_call result) → Keeps took may_refuse result t u
+      → Asks to.place (length old.dials) (request to headers from) old new replies → Tries took may_refuse from known replies result t known' u
+      → IsThere old url to from known bytes → RefusesOnlyMemory took may_refuse t → result ≢ Err OutOfMemory → result ≡ Ok (record { total = length bytes })
   by_replies to url headers from old new known known' (Ok fetched) t u bytes [] counts kept asks tries there never memory = absurd tries
   by_replies to url headers from old new known known' (Ok fetched) t u bytes (reply ∷ replies) counts kept asks tries there never memory =
       let total = ok_same fetched.total (length bytes) (tries.end_is ∙ total_there old new url to headers from known bytes reply replies tries.verdict there asks tries.is) in
@@ -368,9 +304,9 @@ module _ {T : Type 0} (took : T → List ℕ → T → Type 0) (may_refuse : T �
 
   pub complete : (leads : Result Address PieceFault) (url : List ℕ) (to : Address) (headers : List Header) (from : ℕ) (old new : Wire) (known known' : Option ℕ)
       (result : Result Fetched PieceFault) (t u : T) (bytes : List ℕ) → leads ≡ Ok to
-      → Counts old new (IsStill result) (IsTrue (names_call result)) → Keeps took may_refuse result t u
+      → Counts old new (names_call result) → Keeps took may_refuse result t u
       → Fetches took may_refuse leads headers from old known result t new known' u
-      → IsThere old url to from known bytes → NeverRefuses may_refuse → result ≢ Err OutOfMemory → result ≡ Ok (record { total = length bytes })
+      → IsThere old url to from known bytes → RefusesOnlyMemory took may_refuse t → result ≢ Err OutOfMemory → result ≡ Ok (record { total = length bytes })
   complete leads url to headers from old new known known' result t u bytes is counts kept fetches there never memory =
-      let talked = (subst (λ (l : Result Address PieceFault). Fetches took may_refuse l headers from old known result t new known' u) is fetches).1 in
+      let talked = (subst (λ (l : Result Address PieceFault). Fetches took may_refuse l headers from old known result t new known' u) is fetches).0 in
       by_replies to url headers from old new known known' result t u bytes talked.0 counts kept talked.1 talked.2 there never memory

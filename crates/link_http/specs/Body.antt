@@ -1,5 +1,5 @@
 -- How a body goes from the dialer to the taker.
-use Rattle.std.specs.Prelude.{◌≡◌, ℕ, ◌+◌, ◌-◌, ◌*◌, ◌<◌, if◌then◌else◌, nat_le, List, [], ◌++◌, length, take, drop, IsTrue, Option, Some, None, Result, Ok, Err, ⊤, ◌≤◌}
+use Rattle.std.specs.Prelude.{◌≡◌, ℕ, ◌+◌, ◌-◌, ◌*◌, ◌<◌, if◌then◌else◌, nat_le, List, [], ◌++◌, length, take, drop, IsTrue, Bool, true, false, Option, Some, None, Result, Ok, Err, ⊤, ◌≤◌}
 use Rattle.http_reply.specs.declared.chunks.Chunks.{Chunks}
 use Rattle.http_reply.specs.Chunked.{limit}
 use Rattle.http_reply.specs.Content.{Content, behind}
@@ -71,11 +71,11 @@ SomeFits (Ok None) = ⊤
 SomeFits (Ok (Some end)) = EndFits end
 SomeFits (Err fault) = ⊤
 
--- no call failed, or a call of the taker
-abbrev pub IsHeard : {A : Type 0} → Result A BodyFault → Type 0
-IsHeard (Ok a) = ⊤
-IsHeard (Err Recv) = ⊥
-IsHeard (Err (Store fault)) = ⊤
+-- whether the answer is a failed call of the dialer
+abbrev pub is_unheard : {A : Type 0} → Result A BodyFault → Bool
+is_unheard (Ok a) = false
+is_unheard (Err Recv) = true
+is_unheard (Err (Store fault)) = false
 
 -- the place in a body: what is left of the share, the reader, the bytes at hand
 pub record At : Type 0 where

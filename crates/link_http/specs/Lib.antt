@@ -2,6 +2,7 @@ pub mod Request
 pub mod Wire
 pub mod Sending
 pub mod Heads
+pub mod HeadLines
 pub mod Body
 pub mod Taking
 pub mod Try

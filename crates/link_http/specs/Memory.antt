@@ -54,10 +54,10 @@ IsPlaced (Err e) bytes (Some r) = ⊥
 IsPlaced (Err e) bytes None = Unit {0}
 
 abbrev pub talk_of : MemTalk → Talk
-talk_of talk = record { place = place_of talk.dial; request = talk.request.items; reply = talk.reply.items }
+talk_of talk = record { place = place_of talk.dial; dial = talk.turn; request = talk.request.items; reply = talk.reply.items }
 
 abbrev pub connection_of : MemLine → Connection
-connection_of line = record { place = place_of line.dial; sent = line.sent.items; left = drop line.at line.reply.items }
+connection_of line = record { place = place_of line.dial; dial = line.turn; sent = line.sent.items; left = drop line.at line.reply.items }
 
 -- a dialer in memory, by its parts
 abbrev pub wire_by : Bool → Bool → World → ℕ → List MemDial → List MemTalk → Option MemLine → Wire
@@ -85,7 +85,7 @@ reply_at script resources old text = reply_of (turn_at script old.turn) (asked_b
 abbrev pub SendsText : Bool → List Turn → List Resource → List ℕ → MemLine → MemLine → List MemTalk → List MemTalk → Type 0
 SendsText true script resources text old new talks talks' =
     (new.sent.items ≡ []) × (map talk_of talks'
-    ≡ map talk_of talks ++ record { place = place_of old.dial; request = text; reply = drop new.at new.reply.items } ∷ [])
+    ≡ map talk_of talks ++ record { place = place_of old.dial; dial = old.turn; request = text; reply = drop new.at new.reply.items } ∷ [])
     × (drop new.at new.reply.items ≡ reply_at script resources old text)
     × (IsTrue (plans_whole_replies script) → IsServed (world_at resources) (place_of old.dial) text (drop new.at new.reply.items))
 SendsText false script resources text old new talks talks' =

@@ -16,17 +16,17 @@ pub record IsWholeText (text : List ℕ) : Type 0 where
   pub once : (n : ℕ) → n < length text → IsFalse (ends_request (take n text))
 
 -- a connection over which nothing was sent
-abbrev pub fresh : Place → Connection
-fresh place = record { place = place; sent = []; left = [] }
+abbrev pub fresh : Place → ℕ → Connection
+fresh place dial = record { place = place; dial = dial; sent = []; left = [] }
 
 -- so many bytes of the text were sent
-pub record Partly (place : Place) (text : List ℕ) (at : ℕ) (old new : Wire) : Type 0 where
-  pub line : new.line ≡ Some (record { place = place; sent = take at text; left = [] })
+pub record Partly (place : Place) (dial : ℕ) (text : List ℕ) (at : ℕ) (old new : Wire) : Type 0 where
+  pub line : new.line ≡ Some (record { place = place; dial = dial; sent = take at text; left = [] })
   pub asks : AsksNothing old new
 
 -- the request was asked, and its whole reply is to come
-pub record Asked (place : Place) (text : List ℕ) (old new : Wire) : Type 0 where
+pub record Asked (place : Place) (dial : ℕ) (text : List ℕ) (old new : Wire) : Type 0 where
   pub world : new.world ≡ old.world
   pub dials : new.dials ≡ old.dials
-  pub talks : new.talks ≡ old.talks ++ record { place = place; request = text; reply = left new } ∷ []
+  pub talks : new.talks ≡ old.talks ++ record { place = place; dial = dial; request = text; reply = left new } ∷ []
   pub served : IsTrue old.serves → IsServed old.world place text (left new)

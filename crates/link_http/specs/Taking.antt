@@ -1,5 +1,5 @@
 -- What a body that was taken comes to.
-use Rattle.std.specs.Prelude.{◌≡◌, ◌≢◌, ℕ, ◌⊎◌, Bool, true, not, IsTrue, IsFalse, List, [], ◌++◌, Result, Ok, Err, Option}
+use Rattle.std.specs.Prelude.{◌≡◌, ◌≢◌, ℕ, ◌⊎◌, Bool, true, not, IsTrue, IsFalse, false, List, [], ◌++◌, Result, Ok, Err, Option}
 use Rattle.std.specs.Option.{option_or}
 use Rattle.folder_base.specs.Took.{TookSome}
 use Rattle.text_base.specs.declared.faults.FolderCall.{FolderCall}
@@ -7,7 +7,7 @@ use Rattle.folder_base.specs.declared.store_fault.StoreFault.{StoreFault}
 use Rattle.folder_base.specs.declared.store_fault.StoreFault.TheVariants as store
 use Rattle.http_reply.specs.declared.piece_fault.PieceFault.{PieceFault}
 use Rattle.http_reply.specs.declared.piece_fault.PieceFault.TheVariants.{Recv, Folder, OutOfMemory}
-use Rattle.http_reply.specs.Faults.{is_broken}
+use Rattle.http_reply.specs.Faults.{is_broken, is_call}
 use Rattle.http_reply.specs.Verdict.{Verdict, IsVerdict}
 use Rattle.link_http.specs.declared.fetched.Fetched.{Fetched}
 use Rattle.link_http.specs.declared.body_fault.BodyFault.{BodyFault}
@@ -22,6 +22,11 @@ is_judged (Err fault) = not (is_broken fault)
 abbrev pub as_end : Result Fetched PieceFault → Result ℕ PieceFault
 as_end (Ok fetched) = Ok fetched.total
 as_end (Err fault) = Err fault
+
+-- whether the answer names a failed call of the dialer
+abbrev pub names_call : {A : Type 0} → Result A PieceFault → Bool
+names_call (Ok a) = false
+names_call (Err fault) = is_call fault
 
 -- the answer to what a taker refused
 abbrev pub of_store : StoreFault → PieceFault

@@ -1,26 +1,27 @@
 -- What one try does.
-use Rattle.std.specs.Prelude.{◌≡◌, ◌≢◌, ℕ, ◌≤◌, ◌⊎◌, Bool, false, IsTrue, IsFalse, All, List, [], ◌∷◌, ◌++◌, length, map, Option, Some, None, Result, Ok, Err}
+use Rattle.std.specs.Prelude.{◌≡◌, ◌≢◌, ℕ, ◌≤◌, ◌⊎◌, Bool, false, IsTrue, IsFalse, All, List, slice_get, ◌<◌, [], ◌∷◌, ◌++◌, length, map, Option, Some, None, Result, Ok, Err}
 use Rattle.std.specs.Option.{option_or}
 use Rattle.folder_base.specs.declared.store_fault.StoreFault.{StoreFault}
-use Rattle.link_http.specs.Wire.{Wire, IsServed, AsksNothing}
+use Rattle.folder_base.specs.declared.store_fault.StoreFault.TheVariants as store
+use Rattle.link_http.specs.Wire.{Wire, Talk, IsServed, AsksNothing}
 use Rattle.http_reply.specs.declared.piece_fault.PieceFault.{PieceFault}
 use Rattle.http_reply.specs.declared.piece_fault.PieceFault.TheVariants.{Dial, Send, Url, Scheme, OutOfMemory}
 use Rattle.link_http.specs.declared.fetched.Fetched.{Fetched}
 use Rattle.link_http.specs.Taking.{Broke}
-use Rattle.http_reply.specs.Faults.{is_broken, is_call}
+use Rattle.http_reply.specs.Faults.{is_broken}
 use Rattle.http_reply.specs.Verdict.{Verdict, IsVerdict}
 use Rattle.link_http.specs.Request.{Address, Place, address, request}
 use Rattle.link_http.specs.declared.header.Header.{Header}
 use Rattle.http_reply.specs.Chunked.{limit}
 
--- at most one dial, to the place
-abbrev pub DialsOnce : Place → Wire → Wire → Type 0
-DialsOnce place old new = (new.dials ≡ old.dials) ⊎ (new.dials ≡ old.dials ++ place ∷ [])
+-- at most one dial, to the place, and one where a request was asked
+abbrev pub DialsOnce : Place → List (List ℕ) → Wire → Wire → Type 0
+DialsOnce place replies old new = (new.dials ≡ old.dials ++ place ∷ []) ⊎ ((replies ≡ []) × (new.dials ≡ old.dials))
 
--- at most one request, which is this text; the replies to what was asked
-pub record Asks (place : Place) (text : List ℕ) (old new : Wire) (replies : List (List ℕ)) : Type 0 where
+-- at most one request, which is this text, over the connection of the dial of this number; the replies to what was asked
+pub record Asks (place : Place) (dial : ℕ) (text : List ℕ) (old new : Wire) (replies : List (List ℕ)) : Type 0 where
   pub world : new.world ≡ old.world
-  pub talks : new.talks ≡ old.talks ++ map (λ reply. record { place = place; request = text; reply = reply }) replies
+  pub talks : new.talks ≡ old.talks ++ map (λ reply. record { place = place; dial = dial; request = text; reply = reply }) replies
   pub once : (replies ≡ []) ⊎ ((reply : List ℕ) × (replies ≡ reply ∷ []))
   pub served : IsTrue old.serves → All (IsServed old.world place text) replies
 
@@ -51,35 +52,37 @@ module _ {T : Type 0} (took : T → List ℕ → T → Type 0) (may_refuse : T �
   Tries from known [] (Err fault) t known' u =
       ((fault ≡ Dial) ⊎ ((fault ≡ Send) ⊎ (fault ≡ OutOfMemory))) × took t [] u × (known' ≡ known)
 
-  -- over a connection that stands
-  abbrev pub Talks : Place → List ℕ → ℕ → Wire → Option ℕ → Result Fetched PieceFault → T → Wire → Option ℕ → T → Type 0
-  Talks place text from old known result t new known' u =
-      (replies : List (List ℕ)) × Asks place text old new replies × Tries from known replies result t known' u
+  -- over a connection that stands, of the dial of this number
+  abbrev pub Talks : Place → ℕ → List ℕ → ℕ → Wire → Option ℕ → Result Fetched PieceFault → T → Wire → Option ℕ → T → Type 0
+  Talks place dial text from old known result t new known' u =
+      (replies : List (List ℕ)) × Asks place dial text old new replies × Tries from known replies result t known' u
+
+  -- over the connection of the next dial
+  abbrev pub DialsAndTalks : Place → List ℕ → ℕ → Wire → Option ℕ → Result Fetched PieceFault → T → Wire → Option ℕ → T → Type 0
+  DialsAndTalks place text from old known result t new known' u =
+      (talks : Talks place (length old.dials) text from old known result t new known' u) × DialsOnce place talks.0 old new
 
   -- by where the URL leads
   abbrev pub Fetches : Result Address PieceFault → List Header → ℕ → Wire → Option ℕ → Result Fetched PieceFault → T → Wire → Option ℕ → T → Type 0
   Fetches (Err fault) headers from old known result t new known' u =
       ((result ≡ Err fault) ⊎ (result ≡ Err OutOfMemory)) × AsksNothing old new × took t [] u × (known' ≡ known)
   Fetches (Ok to) headers from old known result t new known' u =
-      DialsOnce to.place old new × Talks to.place (request to headers from) from old known result t new known' u
-
--- whether the answer names a failed call of the dialer
-abbrev pub names_call : Result Fetched PieceFault → Bool
-names_call (Ok fetched) = false
-names_call (Err fault) = is_call fault
-
--- no call of the dialer failed, and memory was there
-abbrev pub IsStill : Result Fetched PieceFault → Type 0
-IsStill result = IsTrue (names_call result) ⊎ (result ≡ Err OutOfMemory) → ⊥
+      DialsAndTalks to.place (request to headers from) from old known result t new known' u
 
 -- Url and Scheme come exactly where the URL leads nowhere, unless memory is refused
 abbrev pub OfAddress : Result Address PieceFault → Result Fetched PieceFault → Type 0
 OfAddress (Err fault) result = (result ≡ Err fault) ⊎ (result ≡ Err OutOfMemory)
 OfAddress (Ok to) result = (result ≢ Err Url) × (result ≢ Err Scheme)
 
--- A taker that refuses no piece.
-abbrev pub NeverRefuses : {T : Type 0} → (T → List ℕ → StoreFault → Type 0) → Type 0
-NeverRefuses {T} may_refuse = (t : T) (bytes : List ℕ) (fault : StoreFault) → may_refuse t bytes fault → ⊥
+-- Each request follows a dial to its own place, and a later request follows a later dial: no two talks have one dial.
+pub record IsPaired (wire : Wire) : Type 0 where
+  pub place : (i : ℕ) (talk : Talk) → slice_get wire.talks i ≡ Some talk → slice_get wire.dials talk.dial ≡ Some talk.place
+  pub rising : (i j : ℕ) (a b : Talk) → i < j → slice_get wire.talks i ≡ Some a → slice_get wire.talks j ≡ Some b → a.dial < b.dial
+
+-- From this taker on, whatever is put, a put is refused for want of memory alone.
+abbrev pub RefusesOnlyMemory : {T : Type 0} → (T → List ℕ → T → Type 0) → (T → List ℕ → StoreFault → Type 0) → T → Type 0
+RefusesOnlyMemory {T} took may_refuse taker =
+    (bytes : List ℕ) (later : T) → took taker bytes later → (piece : List ℕ) (fault : StoreFault) → may_refuse later piece fault → fault ≡ store.OutOfMemory
 
 -- What a resource of the world needs to be fetched: it is of these bytes, not too long, from no more than its length on,
 -- and no other total is known.

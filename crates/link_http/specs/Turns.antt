@@ -1,8 +1,41 @@
 -- What a dialer in memory plans.
-use Rattle.std.specs.Prelude.{ℕ, Bool, true, false, List, slice_index_or}
+use Rattle.std.specs.Prelude.{ℕ, Bool, true, false, ◌==◌, List, slice_index_or}
 use Rattle.std.specs.List.{list_all}
 use Rattle.link_http.specs.declared.turn.Turn.{Turn}
 use Rattle.link_http.specs.declared.turn.Turn.TheVariants.{Honest, Whole, Cut, Status, Raw, DialFails, SendFails, RecvFails}
+
+-- the dial fails
+abbrev pub fails_dial : Turn → Bool
+fails_dial DialFails = true
+fails_dial Honest = false
+fails_dial Whole = false
+fails_dial (Cut n) = false
+fails_dial (Status code) = false
+fails_dial (Raw bytes) = false
+fails_dial SendFails = false
+fails_dial (RecvFails n) = false
+
+-- a `send` fails, behind so many of its connection: the first one
+abbrev pub fails_send : Turn → ℕ → Bool
+fails_send SendFails before = before == 0
+fails_send Honest before = false
+fails_send Whole before = false
+fails_send (Cut n) before = false
+fails_send (Status code) before = false
+fails_send (Raw bytes) before = false
+fails_send DialFails before = false
+fails_send (RecvFails n) before = false
+
+-- a `recv` fails, behind so many of its connection: the one that the turn names
+abbrev pub fails_recv : Turn → ℕ → Bool
+fails_recv (RecvFails n) before = n == before
+fails_recv Honest before = false
+fails_recv Whole before = false
+fails_recv (Cut n) before = false
+fails_recv (Status code) before = false
+fails_recv (Raw bytes) before = false
+fails_recv DialFails before = false
+fails_recv SendFails before = false
 
 -- no call behind the turn is planned to fail
 abbrev pub is_steady : Turn → Bool

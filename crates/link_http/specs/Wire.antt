@@ -3,7 +3,7 @@ use Rattle.std.specs.Prelude.{◌≡◌, ℕ, ◌<◌, ◌≤◌, Bool, true, fa
 use Rattle.std.specs.List.{ends_with}
 use Rattle.text_base.specs.Causes.{Rose}
 use Rattle.text_base.specs.declared.faults.FolderFault.{FolderFault}
-use Rattle.text_base.specs.declared.faults.FolderFault.TheVariants.{OutOfMemory}
+use Rattle.text_base.specs.declared.faults.FolderFault.TheVariants.{Failed, OutOfMemory}
 use Rattle.http_reply.specs.Truth.{IsHonest}
 use Rattle.link_http.specs.declared.header.Header.{Header}
 use Rattle.link_http.specs.Request.{Address, Place, address, request}
@@ -12,19 +12,18 @@ use Rattle.link_http.specs.Request.{Address, Place, address, request}
 abbrev pub World : Type 0
 World = List ℕ → Option (List ℕ)
 
--- URLs with one host, port and target have the same bytes
-abbrev pub IsWorld : World → Type 0
-IsWorld world = (url other : List ℕ) (to : Address) → address url ≡ Ok to → address other ≡ Ok to → world url ≡ world other
-
--- a request that was asked, and the whole reply that its connection held
+-- a request that was asked, over the connection of a dial, and the whole reply that this connection held
 pub record Talk : Type 0 where
   pub place : Place
+  pub dial : ℕ
   pub request : List ℕ
   pub reply : List ℕ
 
--- a connection: what was sent over it since its last request, and what of the reply is still to come
+-- a connection: the number of its dial, from 0, what was sent over it since its last request, and what of the reply is
+-- still to come
 pub record Connection : Type 0 where
   pub place : Place
+  pub dial : ℕ
   pub sent : List ℕ
   pub left : List ℕ
 
@@ -45,16 +44,23 @@ pub record Wire : Type 0 where
 abbrev pub left : Wire → List ℕ
 left w = unwrap_or (option_map (λ c. c.left) w.line) []
 
--- What each call keeps, told or not: the count never falls, it rose where the call failed, and it is as it
--- was where the call succeeded. What a dialer tells of its later calls stays.
-pub record Counts (old new : Wire) (good failed : Type 0) : Type 0 where
+-- whether the answer is that the call failed
+abbrev pub has_failed : {T : Type 0} → Result T FolderFault → Bool
+has_failed (Ok a) = false
+has_failed (Err Failed) = true
+has_failed (Err OutOfMemory) = false
+
+-- What each call keeps, told or not: the count never falls, it rose where the answer is that a call failed, and it stands still after
+-- each other answer. What a dialer tells of its later calls stays; one that tells goes on telling, and no other begins to.
+pub record Counts (old new : Wire) (failed : Bool) : Type 0 where
   pub never_falls : old.faults ≤ new.faults
-  pub rises : failed → Rose old.faults new.faults
-  pub still : good → new.faults ≡ old.faults
+  pub rises : IsTrue failed → Rose old.faults new.faults
+  pub still : IsFalse failed → new.faults ≡ old.faults
   pub steady : IsTrue old.steady → IsTrue new.steady
-  pub no_fault : IsTrue old.steady → failed → ⊥
+  pub no_fault : IsTrue old.steady → IsFalse failed
   pub serves : IsTrue old.serves → IsTrue new.serves
   pub tells : IsTrue new.tells → IsTrue old.tells
+  pub goes_on : IsTrue old.tells → IsTrue new.tells
 
 -- nothing was asked
 pub record AsksNothing (old new : Wire) : Type 0 where
@@ -67,7 +73,7 @@ pub record Dials (host : List ℕ) (port : ℕ) (old new : Wire) (result : Resul
   pub world : new.world ≡ old.world
   pub dials : (new.dials ≡ old.dials ++ record { host = host; port = port } ∷ []) ⊎ ((result ≡ Err OutOfMemory) × (new.dials ≡ old.dials))
   pub talks : new.talks ≡ old.talks
-  pub opened : OnOk result (new.line ≡ Some (record { place = record { host = host; port = port }; sent = []; left = [] }))
+  pub opened : OnOk result (new.line ≡ Some (record { place = record { host = host; port = port }; dial = length old.dials; sent = []; left = [] }))
 
 -- the text ends with an empty line
 abbrev pub ends_request : List ℕ → Bool
@@ -84,7 +90,7 @@ IsServed world place text reply =
 -- the connection after bytes were sent: with the last byte of a request it is asked, and its whole reply is to come
 abbrev pub SendsOn : Bool → List ℕ → Connection → Connection → Wire → Wire → Type 0
 SendsOn true text before after old new =
-    (after.sent ≡ []) × (new.talks ≡ old.talks ++ record { place = before.place; request = text; reply = after.left } ∷ [])
+    (after.sent ≡ []) × (new.talks ≡ old.talks ++ record { place = before.place; dial = before.dial; request = text; reply = after.left } ∷ [])
     × (IsTrue old.serves → IsServed old.world before.place text after.left)
 SendsOn false text before after old new =
     (after.sent ≡ text) × (after.left ≡ before.left) × (new.talks ≡ old.talks)
@@ -98,6 +104,7 @@ pub record Sends (bytes : List ℕ) (old new : Wire) : Type 0 where
   pub was : old.line ≡ Some before
   pub is : new.line ≡ Some after
   pub place : after.place ≡ before.place
+  pub dial : after.dial ≡ before.dial
   pub asks : SendsOn (ends_request (before.sent ++ bytes)) (before.sent ++ bytes) before after old new
 
 -- n bytes of the reply came, to the front of the buffer

@@ -1,5 +1,5 @@
 //! Where the URL of a piece leads.
-ghost use Rattle.std.specs.Prelude.{◌≡◌, ◌⊎◌, All, Ok, Err, IfOk, IfErr};
+ghost use Rattle.std.specs.Prelude.{◌≡◌, ◌⊎◌, All, Ok, Err, is_ok, IfOk, IfErr};
 ghost use Rattle.url.specs.Parts.{IsValid};
 ghost use Rattle.url.specs.Parser.{IsOutOfRoom};
 ghost use Rattle.http_reply.specs.Faults.{origin, of_url};
@@ -8,6 +8,7 @@ ghost use Rattle.link_http.specs.Sending.{IsClean};
 
 use http_reply::PieceFault;
 use std::alloc::Global;
+use text_base::OutOfMemory;
 use url::{ParseError, Url};
 
 const LONGEST: usize = 268_435_456;
@@ -55,4 +56,15 @@ pub fn place_of(url: &Url) -> Result<(&str, u16), PieceFault>
         return Err(PieceFault::Scheme);
     }
     Ok((host, url.port().unwrap_or(80)))
+}
+
+/// Whether a URL leads to a host over http, so that a piece can be fetched from it.
+pub fn leads_over_http(alloc: Global, url: &str) -> Result<bool, OutOfMemory>
+    ensures { IfOk result (λ leads. leads ≡ is_ok (address url.now)) }
+{
+    match read_url(alloc, url) {
+        Ok(url) => Ok(place_of(&url).is_ok()),
+        Err(PieceFault::OutOfMemory) => Err(OutOfMemory),
+        Err(_) => Ok(false),
+    }
 }

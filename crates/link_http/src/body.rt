@@ -1,9 +1,9 @@
 //! A body, from the dialer to the taker.
-ghost use Rattle.std.specs.Prelude.{◌≡◌, ◌≤◌, ◌<◌, ◌+◌, ◌-◌, ℕ, List, slice_range, min, take, drop, IsErr, IsOk, OnErr, IsTrue, IsSome, IfSome, IfOk, IfErr, IsErrOf, OnOk, length};
+ghost use Rattle.std.specs.Prelude.{◌≡◌, ◌≤◌, ◌<◌, ◌+◌, ◌-◌, ℕ, List, slice_range, min, take, drop, is_err, OnErr, IsTrue, IsSome, IfSome, IfOk, IfErr, IsErrOf, OnOk, length};
 ghost use Rattle.http_reply.specs.Chunked.{limit};
 ghost use Rattle.http_reply.specs.Machine.{IsSound, passed};
 ghost use Rattle.link_http.specs.Wire.{Wire, Counts, AsksNothing};
-ghost use Rattle.link_http.specs.Body.{IsHeard, Turns, Goes, Ends, Fails, At, Hands, Reads, Cuts, IsWanting, HasRoom, Pours, work, passed_of, EndFits, SomeFits};
+ghost use Rattle.link_http.specs.Body.{is_unheard, Turns, Goes, Ends, Fails, At, Hands, Reads, Cuts, IsWanting, HasRoom, Pours, work, passed_of, EndFits, SomeFits};
 ghost use Rattle.http_reply.specs.Content.{Content};
 ghost use Rattle.folder_base.specs.Took.{TookSome};
 ghost use Rattle.folder_base.specs.declared.store_fault.StoreFault.{StoreFault};
@@ -32,8 +32,7 @@ pub fn pour<D: Dialer, B: Taker>(
     requires spare { HasRoom share (passed chunks) (B.spare taker.old) }
     requires wanting { IsWanting share }
     ensures connected { IsSome (D.wire dialer.new).line }
-    ensures counts { let failed = IsErrOf result BodyFault.Recv in
-        Counts (D.wire dialer.old) (D.wire dialer.new) (IsHeard result) failed }
+    ensures counts { Counts (D.wire dialer.old) (D.wire dialer.new) (is_unheard result) }
     ensures fits { IfOk result EndFits }
     ensures pours { Pours B.took B.may_refuse result
         (record { share = share; chunks = chunks; held = window.old; wire = D.wire dialer.old })
@@ -67,8 +66,7 @@ fn turn<D: Dialer, B: Taker>(
     ensures room { window.new.room ≡ window.old.room }
     ensures spare { result ≡ Ok None → HasRoom share.new (passed chunks.new) (B.spare taker.new) }
     ensures wanting { IsWanting share.new }
-    ensures counts { let failed = IsErrOf result BodyFault.Recv in
-        Counts (D.wire dialer.old) (D.wire dialer.new) (IsHeard result) failed }
+    ensures counts { Counts (D.wire dialer.old) (D.wire dialer.new) (is_unheard result) }
     ensures work { result ≡ Ok None → work chunks.new window.new < work chunks.old window.old }
     ensures fits { SomeFits result }
     ensures turns { Turns B.took B.may_refuse result
@@ -118,7 +116,7 @@ fn read_more<D: Dialer>(
     requires connected { IsSome (D.wire dialer.old).line }
     requires room { length window.old.bytes < window.old.room }
     requires passed { passed ≤ limit }
-    ensures counts { Counts (D.wire dialer.old) (D.wire dialer.new) (IsOk result) (IsErr result) }
+    ensures counts { Counts (D.wire dialer.old) (D.wire dialer.new) (is_err result) }
     ensures connected { IsSome (D.wire dialer.new).line }
     ensures room { window.new.room ≡ window.old.room }
     ensures asks { IsTrue (D.wire dialer.new).tells → AsksNothing (D.wire dialer.old) (D.wire dialer.new) }

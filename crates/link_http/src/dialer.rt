@@ -1,21 +1,20 @@
 //! The other end of a line.
-ghost use Rattle.std.specs.Prelude.{◌≡◌, ◌≤◌, ◌<◌, ◌↔◌, ◌+◌, Some, IsTrue, IsSome, IfOk, OnErr, IsOk, IsErr, IsErrOf, length, take, None};
-ghost use Rattle.link_http.specs.Wire.{Wire, Counts, Dials, Sends, Hears, AsksNothing};
+ghost use Rattle.std.specs.Prelude.{◌≡◌, ◌≤◌, ◌<◌, ◌↔◌, ◌+◌, Some, IsTrue, IsSome, IfOk, OnErr, IsOk, is_err, false, length, take, None};
+ghost use Rattle.link_http.specs.Wire.{Wire, Counts, has_failed, Dials, Sends, Hears, AsksNothing};
 
 use text_base::{Failed, FolderFault};
 
 /// What opens connections, one at a time. Its clauses on content hold where it tells.
 ///
-/// A call answers `Failed` only where the count of faults rose in it, and a call that answers Ok
-/// leaves that count alone.
+/// A call answers `Failed` where the count of faults rose in it, and each call that answers
+/// otherwise, want of memory among it, leaves that count alone.
 pub trait Dialer {
     /// What the dialer is and was, and its count.
     ghost wire: { Self → Wire };
 
     /// Opens a connection, and ends the one that stands.
     fn dial(&mut self, host: &str, port: u16) -> Result<(), FolderFault>
-        ensures counts { let failed = IsErrOf result FolderFault.Failed in
-            Counts (wire self.old) (wire self.new) (IsOk result) failed }
+        ensures counts { Counts (wire self.old) (wire self.new) (has_failed result) }
         ensures connected { IsSome (wire self.new).line ↔ IsOk result }
         ensures told { IsTrue (wire self.new).tells
             → Dials host.now port (wire self.old) (wire self.new) result };
@@ -25,8 +24,7 @@ pub trait Dialer {
     fn send(&mut self, bytes: &[u8]) -> Result<usize, FolderFault>
         requires connected { IsSome (wire self.old).line }
         requires some { 0 < length bytes.now }
-        ensures counts { let failed = IsErrOf result FolderFault.Failed in
-            Counts (wire self.old) (wire self.new) (IsOk result) failed }
+        ensures counts { Counts (wire self.old) (wire self.new) (has_failed result) }
         ensures connected { IsSome (wire self.new).line }
         ensures sent { IfOk result (λ n. (0 < n) × (n ≤ length bytes.now)) }
         ensures kept { IsTrue (wire self.new).tells
@@ -38,7 +36,7 @@ pub trait Dialer {
     /// 0 for a non-empty buffer only at the end of the reply.
     fn recv(&mut self, buf: &mut [u8]) -> Result<usize, Failed>
         requires connected { IsSome (wire self.old).line }
-        ensures counts { Counts (wire self.old) (wire self.new) (IsOk result) (IsErr result) }
+        ensures counts { Counts (wire self.old) (wire self.new) (is_err result) }
         ensures connected { IsSome (wire self.new).line }
         ensures placed { IfOk result (λ n. n ≤ length buf.new) }
         ensures asks { IsTrue (wire self.new).tells → AsksNothing (wire self.old) (wire self.new) }
@@ -47,7 +45,7 @@ pub trait Dialer {
 
     /// Ends the connection that stands; where none stands it does nothing.
     fn hang_up(&mut self)
-        ensures counts { Counts (wire self.old) (wire self.new) Unit ⊥ }
+        ensures counts { Counts (wire self.old) (wire self.new) false }
         ensures ended { (wire self.new).line ≡ None }
         ensures none { (wire self.old).line ≡ None → wire self.new ≡ wire self.old }
         ensures told { IsTrue (wire self.new).tells → AsksNothing (wire self.old) (wire self.new) };

@@ -23,20 +23,12 @@ pub struct DialerMem {
     alloc: Global,
     resources: Vec<Resource>,
     script: Vec<Turn>,
-    steady: bool,
     faults: u64,
     dials: Vec<MemDial>,
     talks: Vec<MemTalk>,
     requests: Vec<Text>,
     line: Option<MemLine>,
     ghost listed: { requests.items ≡ asked_texts (map talk_of talks.items) },
-}
-
-/// Whether no turn plans a fault.
-fn plans_no_fault(script: &[Turn]) -> bool
-    ensures { result ≡ plans_no_fault script.now }
-{
-    script.iter().all(|turn| turn.is_steady())
 }
 
 /// The resources of pages, those whose URLs lead anywhere.
@@ -53,26 +45,25 @@ fn placed(alloc: Global, pages: Vec<Page>) -> Result<Vec<Resource>, OutOfMemory>
 }
 
 impl DialerMem {
-    ghost use Rattle.std.specs.Prelude.{◌≤◌, ◌++◌, ◌∷◌, [], true, IsTrue, IsFalse, OnOk, OnErr};
+    ghost use Rattle.std.specs.Prelude.{◌≤◌, ◌++◌, ◌∷◌, [], true, IsTrue, OnOk, OnErr};
     ghost use Rattle.text_base.specs.Causes.{Rose};
     ghost use Rattle.link_http.specs.Memory.{wire_by, place_of, connection_of, SendsText};
-    ghost use Rattle.link_http.specs.Turns.{plans_whole_replies};
-    ghost use Rattle.link_http.specs.MemoryDialer.{wire_of};
+    ghost use Rattle.link_http.specs.Turns.{plans_whole_replies, turn_at, fails_dial, fails_send, fails_recv};
+    ghost use Rattle.link_http.specs.MemoryDialer.{wire_of, script_of};
 
     /// A dialer for these pages by this script. It tells, and goes on telling; it serves where
     /// the script plans whole replies.
     pub fn new(alloc: Global, world: Vec<Page>, script: Vec<Turn>) -> Result<DialerMem, OutOfMemory>
-        ensures { IfOk result (λ dialer. wire_of dialer
+        ensures tells { IfOk result (λ dialer. wire_of dialer
             ≡ wire_by (plans_no_fault script.items) (plans_whole_replies script.items)
             (world_of world.items) 0 [] [] None) }
+        ensures script { IfOk result (λ dialer. script_of dialer ≡ script.items) }
     {
-        let steady = plans_no_fault(&script);
         let resources = placed(alloc, world)?;
         Ok(DialerMem {
             alloc,
             resources,
             script,
-            steady,
             faults: 0,
             dials: Vec::new(alloc),
             talks: Vec::new(alloc),
@@ -108,29 +99,33 @@ impl DialerMem {
         Ok(())
     }
 
+    /// The turn of this number plans a fault of its dial.
     fn fails_dial(&self, turn: usize) -> bool
-        ensures { IsTrue self.now.steady → IsFalse result }
+        ensures { result ≡ fails_dial (turn_at self.now.script.items turn) }
     {
-        !self.steady && matches!(self.script.get(turn), Some(Turn::DialFails))
-    }
-
-    fn fails_send(&self, line: &MemLine) -> bool
-        ensures { IsTrue self.now.steady → IsFalse result }
-    {
-        !self.steady
-            && line.sends == 0
-            && matches!(self.script.get(line.turn), Some(Turn::SendFails))
-    }
-
-    fn fails_recv(&self, line: &MemLine) -> bool
-        ensures { IsTrue self.now.steady → IsFalse result }
-    {
-        if self.steady {
-            return false;
+        match self.script.get(turn) {
+            Some(turn) => turn.fails_dial(),
+            None => false,
         }
+    }
+
+    /// The turn of a connection plans a fault of its next `send`.
+    fn fails_send(&self, line: &MemLine) -> bool
+        ensures { result ≡ fails_send (turn_at self.now.script.items line.now.turn) line.now.sends }
+    {
         match self.script.get(line.turn) {
-            Some(Turn::RecvFails(n)) => *n == line.receives,
-            _ => false,
+            Some(turn) => turn.fails_send(line.sends),
+            None => false,
+        }
+    }
+
+    /// The turn of a connection plans a fault of its next `recv`.
+    fn fails_recv(&self, line: &MemLine) -> bool
+        ensures { result ≡ fails_recv (turn_at self.now.script.items line.now.turn) line.now.receives }
+    {
+        match self.script.get(line.turn) {
+            Some(turn) => turn.fails_recv(line.receives),
+            None => false,
         }
     }
 
@@ -141,7 +136,11 @@ impl DialerMem {
           requests = self.new.requests;
           listed = self.new.listed;
         } }
-        ensures place { place_of line.new.dial ≡ place_of line.old.dial }
+        ensures line { line.new ≡ record line.old {
+          sent = line.new.sent;
+          reply = line.new.reply;
+          at = line.new.at;
+        } }
         ensures ok { OnOk result (let text = line.old.sent.items ++ bytes.now in
             SendsText (ends_request text) self.old.script.items self.old.resources.items text
             line.old line.new self.old.talks.items self.new.talks.items) }
@@ -161,7 +160,11 @@ impl DialerMem {
           requests = self.new.requests;
           listed = self.new.listed;
         } }
-        ensures place { place_of line.new.dial ≡ place_of line.old.dial }
+        ensures line { line.new ≡ record line.old {
+          sent = line.new.sent;
+          reply = line.new.reply;
+          at = line.new.at;
+        } }
         ensures ok { OnOk result (SendsText true self.old.script.items self.old.resources.items
             line.old.sent.items line.old line.new self.old.talks.items self.new.talks.items) }
         ensures err { OnErr result (map talk_of self.new.talks.items ≡ map talk_of self.old.talks.items) }
@@ -172,6 +175,7 @@ impl DialerMem {
         let reply = reply_to(self.alloc, turn, found, asked_from(&line.sent))?;
         let talk = MemTalk {
             dial: line.dial.copy(self.alloc)?,
+            turn: line.turn,
             request: Vec::from_slice(self.alloc, &line.sent)?,
             reply: Vec::from_slice(self.alloc, &reply)?,
         };
@@ -220,32 +224,51 @@ fn ends_request(text: &[u8]) -> bool
 }
 
 impl Dialer for DialerMem {
-    ghost use Rattle.link_http.specs.MemoryDialer.{wire_of};
+    ghost use Rattle.std.specs.Prelude.{◌≡◌, ◌≤◌, ◌<◌, ◌↔◌, IsTrue, IsSome, OnErr, IsOk, is_err, length, take};
+    ghost use Rattle.link_http.specs.MemoryDialer.{wire_of, DialsByPlan, SendsByPlan, HearsByPlan};
+    ghost use Rattle.link_http.specs.Wire.{Counts, has_failed, Dials, Sends, Hears, AsksNothing};
 
     ghost wire = { wire_of };
 
-    fn dial(&mut self, host: &str, port: u16) -> Result<(), FolderFault> {
+    fn dial(&mut self, host: &str, port: u16) -> Result<(), FolderFault>
+        ensures counts { Counts (wire_of self.old) (wire_of self.new) (has_failed result) }
+        ensures connected { IsSome (wire_of self.new).line ↔ IsOk result }
+        ensures told { IsTrue (wire_of self.new).tells
+            → Dials host.now port (wire_of self.old) (wire_of self.new) result }
+        ensures plan { DialsByPlan self.old self.new result }
+    {
         self.line = None;
-        let turn = self.dials.len();
+        let number = self.dials.len();
         if self.note_dial(host, port).is_err() {
             return Err(FolderFault::OutOfMemory);
         }
-        if self.fails_dial(turn) {
+        if self.fails_dial(number) {
             self.count_fault();
             return Err(FolderFault::Failed);
         }
-        match MemLine::new(self.alloc, host, port, turn) {
+        match MemLine::new(self.alloc, host, port, number) {
             Ok(line) => {
                 self.line = Some(line);
                 Ok(())
             }
-            Err(_) => Err(FolderFault::OutOfMemory),
+            Err(OutOfMemory) => Err(FolderFault::OutOfMemory),
         }
     }
 
-    fn send(&mut self, bytes: &[u8]) -> Result<usize, FolderFault> {
+    fn send(&mut self, bytes: &[u8]) -> Result<usize, FolderFault>
+        requires connected { IsSome (wire_of self.old).line }
+        requires some { 0 < length bytes.now }
+        ensures counts { Counts (wire_of self.old) (wire_of self.new) (has_failed result) }
+        ensures connected { IsSome (wire_of self.new).line }
+        ensures sent { IfOk result (λ n. (0 < n) × (n ≤ length bytes.now)) }
+        ensures kept { IsTrue (wire_of self.new).tells
+            → OnErr result (AsksNothing (wire_of self.old) (wire_of self.new)) }
+        ensures told { IsTrue (wire_of self.new).tells
+            → IfOk result (λ n. Sends (take n bytes.now) (wire_of self.old) (wire_of self.new)) }
+        ensures plan { SendsByPlan self.old self.new result }
+    {
         let Some(mut line) = self.line.take() else {
-            return Err(FolderFault::OutOfMemory);
+            unreachable!()
         };
         let fails = self.fails_send(&line);
         line.sends = line.sends.saturating_add(1);
@@ -262,9 +285,19 @@ impl Dialer for DialerMem {
         }
     }
 
-    fn recv(&mut self, buf: &mut [u8]) -> Result<usize, Failed> {
+    fn recv(&mut self, buf: &mut [u8]) -> Result<usize, Failed>
+        requires connected { IsSome (wire_of self.old).line }
+        ensures counts { Counts (wire_of self.old) (wire_of self.new) (is_err result) }
+        ensures connected { IsSome (wire_of self.new).line }
+        ensures placed { IfOk result (λ n. n ≤ length buf.new) }
+        ensures asks { IsTrue (wire_of self.new).tells
+            → AsksNothing (wire_of self.old) (wire_of self.new) }
+        ensures told { IsTrue (wire_of self.new).tells
+            → IfOk result (λ n. Hears (length buf.old) n buf.new (wire_of self.old) (wire_of self.new)) }
+        ensures plan { HearsByPlan self.old self.new result }
+    {
         let Some(mut line) = self.line.take() else {
-            return Ok(0);
+            unreachable!()
         };
         let fails = self.fails_recv(&line);
         line.receives = line.receives.saturating_add(1);

@@ -1,13 +1,14 @@
 //! One try: a request for a piece from a place on, and what its reply gives.
 ghost use Rattle.std.specs.Prelude.{◌≡◌, ◌≢◌, ◌≤◌, ◌+◌, ℕ, List, [], length, None, Some, Ok, Err, IsTrue, IsSome, IfErr, IfSome};
+ghost use Rattle.link_http.specs.Try.{RefusesOnlyMemory};
 ghost use Rattle.http_reply.specs.Chunked.{limit};
 ghost use Rattle.http_reply.specs.Faults.{origin, of_url};
 ghost use Rattle.http_reply.specs.Heads.{heads_room};
 ghost use Rattle.link_http.specs.Wire.{Wire, Counts};
 ghost use Rattle.link_http.specs.Request.{Address, Place, address};
 ghost use Rattle.link_http.specs.Sending.{IsWholeText, fresh};
-ghost use Rattle.link_http.specs.Taking.{Keeps};
-ghost use Rattle.link_http.specs.Try.{DialsOnce, Talks, Fetches, IsStill, OfAddress, NeverRefuses, IsThere, names_call};
+ghost use Rattle.link_http.specs.Taking.{Keeps, names_call};
+ghost use Rattle.link_http.specs.Try.{Talks, DialsAndTalks, Fetches, OfAddress, IsThere, IsPaired};
 
 use crate::address::{place_of, read_url};
 use crate::dialer::Dialer;
@@ -33,8 +34,7 @@ pub fn fetch_from<D: Dialer, B: Taker>(
     taker: &mut B,
 ) -> Result<Fetched, PieceFault>
     requires { from ≤ limit → limit ≤ B.spare taker.old + from }
-    ensures counts { Counts (D.wire dialer.old) (D.wire dialer.new)
-        (IsStill result) (IsTrue (names_call result)) }
+    ensures counts { Counts (D.wire dialer.old) (D.wire dialer.new) (names_call result) }
     ensures hung_up { (D.wire dialer.new).line ≡ None }
     ensures address { OfAddress (address piece.now.url) result }
     ensures known { IfSome known.old (λ total. known.new ≡ Some total) }
@@ -42,9 +42,11 @@ pub fn fetch_from<D: Dialer, B: Taker>(
     ensures fetches { IsTrue (D.wire dialer.new).tells
         → Fetches B.took B.may_refuse (address piece.now.url) piece.now.headers.items from
         (D.wire dialer.old) known.old result taker.old (D.wire dialer.new) known.new taker.new }
+    ensures paired { IsTrue (D.wire dialer.new).tells
+        → IsPaired (D.wire dialer.old) → IsPaired (D.wire dialer.new) }
     ensures complete { IsTrue (D.wire dialer.new).tells → (to : Address) (bytes : List ℕ)
         → IsThere (D.wire dialer.old) piece.now.url to from known.old bytes
-        → NeverRefuses B.may_refuse → result ≢ Err PieceFault.OutOfMemory
+        → RefusesOnlyMemory B.took B.may_refuse taker.old → result ≢ Err PieceFault.OutOfMemory
         → result ≡ Ok (record { total = length bytes }) }
 {
     let result = try_piece(alloc, dialer, piece, from, known, taker);
@@ -62,8 +64,7 @@ fn try_piece<D: Dialer, B: Taker>(
     taker: &mut B,
 ) -> Result<Fetched, PieceFault>
     requires { from ≤ limit → limit ≤ B.spare taker.old + from }
-    ensures counts { Counts (D.wire dialer.old) (D.wire dialer.new)
-        (IsStill result) (IsTrue (names_call result)) }
+    ensures counts { Counts (D.wire dialer.old) (D.wire dialer.new) (names_call result) }
     ensures address { OfAddress (address piece.now.url) result }
     ensures known { IfSome known.old (λ total. known.new ≡ Some total) }
     ensures kept { Keeps B.took B.may_refuse result taker.old taker.new }
@@ -100,17 +101,14 @@ fn ask<D: Dialer, B: Taker>(
     taker: &mut B,
 ) -> Result<Fetched, PieceFault>
     requires window { room.old.window ≡ record { bytes = []; room = heads_room } }
-    requires headers { length room.old.headers.items ≡ 32768 }
     requires spare { from ≤ limit → limit ≤ B.spare taker.old + from }
     requires whole { IsWholeText text.now }
-    ensures counts { Counts (D.wire dialer.old) (D.wire dialer.new)
-        (IsStill result) (IsTrue (names_call result)) }
+    ensures counts { Counts (D.wire dialer.old) (D.wire dialer.new) (names_call result) }
     ensures origin { IfErr result (λ fault. origin fault ≢ of_url) }
     ensures known { IfSome known.old (λ total. known.new ≡ Some total) }
     ensures kept { Keeps B.took B.may_refuse result taker.old taker.new }
     ensures talks { let place : Place = record { host = host.now; port = port } in
-        IsTrue (D.wire dialer.new).tells → DialsOnce place (D.wire dialer.old) (D.wire dialer.new)
-        × Talks B.took B.may_refuse place text.now from
+        IsTrue (D.wire dialer.new).tells → DialsAndTalks B.took B.may_refuse place text.now from
         (D.wire dialer.old) known.old result taker.old (D.wire dialer.new) known.new taker.new }
 {
     match dialer.dial(host, port) {
@@ -131,25 +129,23 @@ fn talk<D: Dialer, B: Taker>(
 ) -> Result<Fetched, PieceFault>
     requires connected { IsSome (D.wire dialer.old).line }
     requires window { room.old.window ≡ record { bytes = []; room = heads_room } }
-    requires headers { length room.old.headers.items ≡ 32768 }
     requires spare { from ≤ limit → limit ≤ B.spare taker.old + from }
     requires whole { IsWholeText text.now }
-    ensures counts { Counts (D.wire dialer.old) (D.wire dialer.new)
-        (IsStill result) (IsTrue (names_call result)) }
+    ensures counts { Counts (D.wire dialer.old) (D.wire dialer.new) (names_call result) }
     ensures origin { IfErr result (λ fault. origin fault ≢ of_url) }
     ensures known { IfSome known.old (λ total. known.new ≡ Some total) }
     ensures kept { Keeps B.took B.may_refuse result taker.old taker.new }
-    ensures talks { IsTrue (D.wire dialer.new).tells → (place : Place)
-        → (D.wire dialer.old).line ≡ Some (fresh place)
+    ensures talks { IsTrue (D.wire dialer.new).tells → (place : Place) (dial : ℕ)
+        → (D.wire dialer.old).line ≡ Some (fresh place dial)
         → ((D.wire dialer.new).dials ≡ (D.wire dialer.old).dials)
-        × Talks B.took B.may_refuse place text.now from
+        × Talks B.took B.may_refuse place dial text.now from
         (D.wire dialer.old) known.old result taker.old (D.wire dialer.new) known.new taker.new }
 {
     match send_all(dialer, text) {
         Ok(()) => take_reply(
             dialer,
             &mut room.window,
-            room.headers.as_mut_slice(),
+            &mut room.headers,
             from,
             known,
             taker,

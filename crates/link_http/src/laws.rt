@@ -2,7 +2,7 @@
 ghost use Rattle.std.specs.Prelude.{◌≡◌, ◌≢◌, ◌≤◌, ◌+◌, ℕ, List, length, Some, Ok, Err, IsTrue};
 ghost use Rattle.http_reply.specs.Chunked.{limit};
 ghost use Rattle.link_http.specs.Memory.{world_of};
-ghost use Rattle.link_http.specs.Try.{NeverRefuses};
+ghost use Rattle.link_http.specs.Try.{RefusesOnlyMemory};
 ghost use Rattle.link_http.specs.Turns.{plans_no_fault, plans_whole_replies};
 
 use crate::dialer_mem::DialerMem;
@@ -16,7 +16,7 @@ use http_reply::PieceFault;
 use std::alloc::Global;
 
 /// Law: over a dialer in memory that plans no fault and whole replies, a page of its world is
-/// fetched from any place in it, if the taker refuses nothing and memory is there.
+/// fetched from any place in it, if the taker refuses for want of memory alone and memory is there.
 pub fn pages_are_fetched<B: Taker>(
     alloc: Global,
     pages: Vec<Page>,
@@ -29,7 +29,7 @@ pub fn pages_are_fetched<B: Taker>(
     ensures { (bytes : List ℕ) → world_of pages.items piece.now.url ≡ Some bytes
         → length bytes ≤ limit → from ≤ length bytes
         → IsTrue (plans_no_fault script.items) → IsTrue (plans_whole_replies script.items)
-        → NeverRefuses B.may_refuse → result ≢ Err PieceFault.OutOfMemory
+        → RefusesOnlyMemory B.took B.may_refuse taker.old → result ≢ Err PieceFault.OutOfMemory
         → result ≡ Ok (record { total = length bytes }) }
 {
     let Ok(mut dialer) = DialerMem::new(alloc, pages, script) else {

@@ -33,6 +33,7 @@ mod take_reply;
 mod turn;
 mod window;
 
+pub use address::leads_over_http;
 pub use dialer::Dialer;
 pub use dialer_mem::DialerMem;
 pub use fetch::fetch_from;

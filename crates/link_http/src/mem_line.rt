@@ -6,7 +6,7 @@ use text_base::OutOfMemory;
 #[derive(Drop)]
 pub struct MemLine {
     pub dial: MemDial,
-    /// The number of its turn.
+    /// The number of its dial, and of its turn.
     pub turn: usize,
     pub sends: u64,
     pub receives: u64,
@@ -19,11 +19,12 @@ pub struct MemLine {
 
 impl MemLine {
     ghost use Rattle.std.specs.Prelude.{◌≡◌, ◌≤◌, ◌<◌, [], IfOk, length, take, drop};
-    ghost use Rattle.link_http.specs.Memory.{place_of, connection_of};
+    ghost use Rattle.link_http.specs.Memory.{connection_of};
 
     pub fn new(alloc: Global, host: &str, port: u16, turn: usize) -> Result<MemLine, OutOfMemory>
-        ensures { IfOk result (λ line. connection_of line
-            ≡ record { place = record { host = host.now; port = port }; sent = []; left = [] }) }
+        ensures fresh { IfOk result (λ line. connection_of line
+            ≡ record { place = record { host = host.now; port = port }; dial = turn; sent = []; left = [] }) }
+        ensures calls { IfOk result (λ line. (line.sends ≡ 0) × (line.receives ≡ 0)) }
     {
         Ok(MemLine {
             dial: MemDial::new(alloc, host, port)?,
@@ -39,8 +40,7 @@ impl MemLine {
     /// Reads what of the reply fits in the buffer.
     pub fn read(&mut self, buf: &mut [u8]) -> usize
         ensures fits { result ≤ length buf.new }
-        ensures place { place_of self.new.dial ≡ place_of self.old.dial }
-        ensures sent { self.new.sent.items ≡ self.old.sent.items }
+        ensures kept { self.new ≡ record self.old { at = self.new.at } }
         ensures came { take result buf.new ≡ take result (drop self.old.at self.old.reply.items) }
         ensures within { result ≤ length (drop self.old.at self.old.reply.items) }
         ensures rest { drop self.new.at self.new.reply.items ≡ drop result (drop self.old.at self.old.reply.items) }

@@ -4,6 +4,8 @@ use crate::mem_dial::MemDial;
 #[derive(Debug, Drop)]
 pub struct MemTalk {
     pub dial: MemDial,
+    /// The number of its dial.
+    pub turn: usize,
     pub request: Vec<u8>,
     pub reply: Vec<u8>,
 }

@@ -1,13 +1,16 @@
-ghost use Rattle.std.specs.Prelude.{◌≡◌, [], IfOk, length};
-ghost use Rattle.http_reply.specs.Heads.{heads_room};
+ghost use Rattle.std.specs.Prelude.{◌≡◌, ◌≤◌, [], IfOk, OnOk, length};
+ghost use Rattle.http_reply.specs.Heads.{heads_room, fields_room};
 
 use crate::window::Window;
 use httparse::spans::{EMPTY_HEADER_SPAN, HeaderSpan};
 use std::alloc::Global;
 use text_base::OutOfMemory;
 
+/// One field more than a head may have.
+const FIELDS: usize = 129;
+
 /// More fields than the heads of a reply have room for.
-const FIELDS: usize = 32_768;
+const WHOLE: usize = 32_768;
 
 /// Room for a reply.
 #[derive(Drop)]
@@ -18,11 +21,20 @@ pub struct Room {
 
 impl Room {
     pub fn new(alloc: Global) -> Result<Room, OutOfMemory>
-        ensures window { IfOk result (λ room. room.window ≡ record { bytes = []; room = heads_room }) }
-        ensures headers { IfOk result (λ room. length room.headers.items ≡ 32768) }
+        ensures { IfOk result (λ room. room.window ≡ record { bytes = []; room = heads_room }) }
     {
         let window = Window::new(alloc)?;
         let headers = vec![in alloc; EMPTY_HEADER_SPAN; FIELDS]?;
         Ok(Room { window, headers })
     }
+}
+
+/// Makes room for all fields that the heads of a reply have room for.
+pub fn widen(headers: &mut Vec<HeaderSpan>) -> Result<(), OutOfMemory>
+    ensures { OnOk result (fields_room ≤ length headers.new.items) }
+{
+    'fields: while headers.len() < WHOLE {
+        headers.push(EMPTY_HEADER_SPAN)?;
+    }
+    Ok(())
 }

@@ -1,7 +1,8 @@
 //! A request, sent whole.
-ghost use Rattle.std.specs.Prelude.{◌≡◌, ◌⊎◌, IsTrue, IsSome, IsOk, IsErrOf, IfErr, OnOk, OnErr, Some};
+ghost use Rattle.std.specs.Prelude.{◌≡◌, ◌⊎◌, ℕ, IsTrue, IsSome, IfErr, OnOk, OnErr, Some};
 ghost use Rattle.link_http.specs.Wire.{Wire, Counts, AsksNothing};
 ghost use Rattle.link_http.specs.Request.{Place};
+ghost use Rattle.link_http.specs.Taking.{names_call};
 ghost use Rattle.link_http.specs.Sending.{IsWholeText, fresh, Asked};
 
 use crate::dialer::Dialer;
@@ -12,17 +13,16 @@ use text_base::FolderFault;
 pub fn send_all<D: Dialer>(dialer: &mut D, text: &[u8]) -> Result<(), PieceFault>
     requires connected { IsSome (D.wire dialer.old).line }
     requires whole { IsWholeText text.now }
-    ensures counts { let failed = IsErrOf result PieceFault.Send in
-        Counts (D.wire dialer.old) (D.wire dialer.new) (IsOk result) failed }
+    ensures counts { Counts (D.wire dialer.old) (D.wire dialer.new) (names_call result) }
     ensures connected { IsSome (D.wire dialer.new).line }
     ensures fault { IfErr result
         (λ fault. (fault ≡ PieceFault.Send) ⊎ (fault ≡ PieceFault.OutOfMemory)) }
-    ensures kept { IsTrue (D.wire dialer.new).tells → (place : Place)
-        → (D.wire dialer.old).line ≡ Some (fresh place)
+    ensures kept { IsTrue (D.wire dialer.new).tells → (place : Place) (dial : ℕ)
+        → (D.wire dialer.old).line ≡ Some (fresh place dial)
         → OnErr result (AsksNothing (D.wire dialer.old) (D.wire dialer.new)) }
-    ensures asked { IsTrue (D.wire dialer.new).tells → (place : Place)
-        → (D.wire dialer.old).line ≡ Some (fresh place)
-        → OnOk result (Asked place text.now (D.wire dialer.old) (D.wire dialer.new)) }
+    ensures asked { IsTrue (D.wire dialer.new).tells → (place : Place) (dial : ℕ)
+        → (D.wire dialer.old).line ≡ Some (fresh place dial)
+        → OnOk result (Asked place dial text.now (D.wire dialer.old) (D.wire dialer.new)) }
 {
     let mut at = 0;
     while at < text.len() {

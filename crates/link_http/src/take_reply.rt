@@ -1,5 +1,5 @@
 //! A reply, read and taken.
-ghost use Rattle.std.specs.Prelude.{IfOk, ◌≡◌, ◌≢◌, ◌≤◌, ◌+◌, IsTrue, IsSome, IsErrOf, IfSome, IfErr, Some, [], All, length, take, drop};
+ghost use Rattle.std.specs.Prelude.{IfOk, ◌≡◌, ◌≢◌, ◌≤◌, ◌+◌, IsTrue, IsSome, IfSome, IfErr, Some, [], All, length, take, drop};
 ghost use Rattle.httparse.specs.Spans.{IsHeaderWithin, IsResponseWithin};
 ghost use Rattle.http_reply.specs.Chunked.{limit};
 ghost use Rattle.http_reply.specs.Fields.{fields_at};
@@ -7,7 +7,7 @@ ghost use Rattle.http_reply.specs.Heads.{heads_room};
 ghost use Rattle.http_reply.specs.Verdict.{judge, FitsPlan};
 ghost use Rattle.http_reply.specs.Faults.{is_after_request, is_cause};
 ghost use Rattle.link_http.specs.Wire.{Wire, Counts, AsksNothing, left};
-ghost use Rattle.link_http.specs.Taking.{Follows};
+ghost use Rattle.link_http.specs.Taking.{names_call, Follows};
 
 use crate::dialer::Dialer;
 use crate::fetched::Fetched;
@@ -23,7 +23,7 @@ use httparse::spans::HeaderSpan;
 pub fn take_reply<D: Dialer, B: Taker>(
     dialer: &mut D,
     window: &mut Window,
-    headers: &mut [HeaderSpan],
+    headers: &mut Vec<HeaderSpan>,
     from: u64,
     known: &mut Option<u64>,
     taker: &mut B,
@@ -31,10 +31,8 @@ pub fn take_reply<D: Dialer, B: Taker>(
     requires connected { IsSome (D.wire dialer.old).line }
     requires empty { window.old.bytes ≡ [] }
     requires room { window.old.room ≡ heads_room }
-    requires headers { length headers.old ≡ 32768 }
     requires spare { from ≤ limit → limit ≤ B.spare taker.old + from }
-    ensures counts { let failed = IsErrOf result PieceFault.Recv in
-        Counts (D.wire dialer.old) (D.wire dialer.new) (failed → ⊥) failed }
+    ensures counts { Counts (D.wire dialer.old) (D.wire dialer.new) (names_call result) }
     ensures connected { IsSome (D.wire dialer.new).line }
     ensures asks { IsTrue (D.wire dialer.new).tells
         → AsksNothing (D.wire dialer.old) (D.wire dialer.new) }

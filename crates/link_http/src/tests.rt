@@ -291,6 +291,28 @@ fn odd_lengths_and_chunks(rt: HostRuntime) -> Result<(), Fail> {
     three(rt, unreadable, Err(PieceFault::BadHead { at: 47 }))
 }
 
+/// A reply with so many fields and a body of three bytes.
+fn reply_of_fields(alloc: Global, fields: usize) -> Result<Vec<u8>, Fail> {
+    let mut reply = b"HTTP/1.1 200 OK\r\nContent-Length: 3\r\n".to_vec(alloc)?;
+    for _ in 1..fields {
+        reply.extend_from_slice(b"X: y\r\n")?;
+    }
+    reply.extend_from_slice(b"\r\nabc")?;
+    Ok(reply)
+}
+
+#[test]
+fn heads_of_128_fields(rt: HostRuntime) -> Result<(), Fail> {
+    let rt = &rt;
+    let most = reply_of_fields(rt.alloc(), 128)?;
+    three(rt, &most, Ok(Fetched { total: 3 }))?;
+    for fields in [129, 130, 300] {
+        let more = reply_of_fields(rt.alloc(), fields)?;
+        three(rt, &more, Err(PieceFault::HeadLong))?;
+    }
+    Ok(())
+}
+
 #[test]
 fn heads_of_65536_bytes(rt: HostRuntime) -> Result<(), Fail> {
     let rt = &rt;

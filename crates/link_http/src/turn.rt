@@ -21,17 +21,35 @@ pub enum Turn {
 
 impl Turn {
     ghost use Rattle.std.specs.Prelude.{◌≡◌};
-    ghost use Rattle.link_http.specs.Turns.{is_steady};
+    ghost use Rattle.link_http.specs.Turns.{fails_dial, fails_send, fails_recv};
 
-    /// No call behind it is planned to fail.
-    pub fn is_steady(&self) -> bool
-        ensures { result ≡ is_steady self.now }
+    /// The dial is planned to fail.
+    pub fn fails_dial(&self) -> bool
+        ensures { result ≡ fails_dial self.now }
     {
         match self {
-            Turn::DialFails => false,
-            Turn::SendFails => false,
-            Turn::RecvFails(_) => false,
-            _ => true,
+            Turn::DialFails => true,
+            _ => false,
+        }
+    }
+
+    /// A `send` behind so many of its connection is planned to fail.
+    pub fn fails_send(&self, before: u64) -> bool
+        ensures { result ≡ fails_send self.now before }
+    {
+        match self {
+            Turn::SendFails => before == 0,
+            _ => false,
+        }
+    }
+
+    /// A `recv` behind so many of its connection is planned to fail.
+    pub fn fails_recv(&self, before: u64) -> bool
+        ensures { result ≡ fails_recv self.now before }
+    {
+        match self {
+            Turn::RecvFails(n) => *n == before,
+            _ => false,
         }
     }
 }

@@ -1,5 +1,5 @@
 //! Bytes of a reply that came and were not used yet.
-ghost use Rattle.std.specs.Prelude.{◌≡◌, ◌≤◌, ◌<◌, ◌+◌, ◌-◌, ◌++◌, [], IsTrue, IsSome, IfOk, IsErr, IsOk, OnOk, OnErr, length, take, drop, slice_range, IsFalse};
+ghost use Rattle.std.specs.Prelude.{◌≡◌, ◌≤◌, ◌<◌, ◌+◌, ◌-◌, ◌++◌, [], IsTrue, IsSome, IfOk, is_err, OnOk, OnErr, length, take, drop, slice_range, IsFalse};
 ghost use Rattle.http_reply.specs.Heads.{heads_room};
 ghost use Rattle.link_http.specs.Wire.{Counts, AsksNothing, left, Held, Fills, Hears};
 
@@ -56,12 +56,14 @@ impl Window {
     pub fn fill<D: Dialer>(&mut self, dialer: &mut D) -> Result<bool, Failed>
         requires connected { IsSome (D.wire dialer.old).line }
         requires room { length self.old.bytes < self.old.room }
-        ensures counts { Counts (D.wire dialer.old) (D.wire dialer.new) (IsOk result) (IsErr result) }
+        ensures counts { Counts (D.wire dialer.old) (D.wire dialer.new) (is_err result) }
         ensures connected { IsSome (D.wire dialer.new).line }
         ensures asks { IsTrue (D.wire dialer.new).tells → AsksNothing (D.wire dialer.old) (D.wire dialer.new) }
         ensures fits { length self.new.bytes ≤ self.new.room }
         ensures room { self.new.room ≡ self.old.room }
         ensures more { IfOk result (λ more. IsTrue more → length self.old.bytes < length self.new.bytes) }
+        ensures front { IfOk result (λ more.
+            take (length self.old.bytes) self.new.bytes ≡ self.old.bytes) }
         ensures none { IfOk result (λ more. IsFalse more → self.new.bytes ≡ self.old.bytes) }
         ensures told { IsTrue (D.wire dialer.new).tells → IfOk result (λ more.
             Fills more self.old.bytes self.new.bytes (D.wire dialer.old) (D.wire dialer.new)) }
@@ -92,7 +94,7 @@ fn to_front(store: &mut Vec<u8>, start: usize, end: usize)
 fn receive<D: Dialer>(dialer: &mut D, store: &mut Vec<u8>, end: usize) -> Result<usize, Failed>
     requires connected { IsSome (D.wire dialer.old).line }
     requires within { end ≤ length store.old.items }
-    ensures counts { Counts (D.wire dialer.old) (D.wire dialer.new) (IsOk result) (IsErr result) }
+    ensures counts { Counts (D.wire dialer.old) (D.wire dialer.new) (is_err result) }
     ensures connected { IsSome (D.wire dialer.new).line }
     ensures asks { IsTrue (D.wire dialer.new).tells → AsksNothing (D.wire dialer.old) (D.wire dialer.new) }
     ensures len { length store.new.items ≡ length store.old.items }
@@ -108,7 +110,7 @@ fn receive<D: Dialer>(dialer: &mut D, store: &mut Vec<u8>, end: usize) -> Result
 fn receive_behind<D: Dialer>(dialer: &mut D, store: &mut [u8], end: usize) -> Result<usize, Failed>
     requires connected { IsSome (D.wire dialer.old).line }
     requires within { end ≤ length store.old }
-    ensures counts { Counts (D.wire dialer.old) (D.wire dialer.new) (IsOk result) (IsErr result) }
+    ensures counts { Counts (D.wire dialer.old) (D.wire dialer.new) (is_err result) }
     ensures connected { IsSome (D.wire dialer.new).line }
     ensures asks { IsTrue (D.wire dialer.new).tells → AsksNothing (D.wire dialer.old) (D.wire dialer.new) }
     ensures kept { take end store.new ≡ take end store.old }

@@ -71,6 +71,8 @@ fn turns_are_taken(rt: HostRuntime) -> Result<(), Fail> {
     first_gives(rt, Turn::DialFails, url, 0, Err(PieceFault::Dial), b"")?;
     first_gives(rt, Turn::SendFails, url, 0, Err(PieceFault::Send), b"")?;
     first_gives(rt, Turn::RecvFails(0), url, 0, Err(PieceFault::Recv), b"")?;
+    // What one recv brought whole is not waited for any longer.
+    first_gives(rt, Turn::RecvFails(1), url, 0, total, b"abcdef")?;
     let raw = b"HTTP/1.1 206 Partial Content\r\nContent-Range: bytes 2-5/6\r\n\r\ncdef".to_vec(
         rt.alloc(),
     )?;
@@ -96,6 +98,15 @@ fn urls_are_judged_before_the_dial(rt: HostRuntime) -> Result<(), Fail> {
         Err(PieceFault::Scheme),
         b"",
     )?;
+    Ok(())
+}
+
+#[test]
+fn urls_lead_over_http(rt: HostRuntime) -> Result<(), Fail> {
+    let alloc = rt.alloc();
+    assert_eq!(rt; leads_over_http(alloc, "http://127.0.0.1:8080/v?q")?, true);
+    assert_eq!(rt; leads_over_http(alloc, "https://127.0.0.1/v?q")?, false);
+    assert_eq!(rt; leads_over_http(alloc, "/v?q")?, false);
     Ok(())
 }
 

@@ -22,7 +22,7 @@ impl Dialer for Replay {
       world = λ url. None;
       dials = [];
       talks = [];
-      line = if d.open then Some (record { place = record { host = []; port = 0 }; sent = []; left = [] }) else None;
+      line = if d.open then Some (record { place = record { host = []; port = 0 }; dial = 0; sent = []; left = [] }) else None;
     } };
 
     fn dial(&mut self, _host: &str, _port: u16) -> Result<(), FolderFault> {

@@ -1,6 +1,5 @@
-use Rattle.std.proofs.Common.{[], refl, rules}
-use Rattle.std.specs.Prelude.{⊤}
-use Rattle.link_http.proofs.WireLemmas.{counts_none, counts_both, counts_as}
+use Rattle.std.proofs.Common.{[], refl, rules, false}
+use Rattle.link_http.proofs.WireLemmas.{counts_none, counts_both}
 use Rattle.link_http.proofs.BodyLemmas.{goes_on, goes_end, goes_fail, asks-nothing}
 use Rattle.link_http.proofs.body.pour.Goals as goal
 
@@ -22,7 +21,7 @@ turns-preserved g c =
       room = search rules;
       spare = said.spare refl;
       wanting = said.wanting;
-      counts = counts_as _ _ ⊤ _ ⊤ ⊥ (λ x. x) (λ x. absurd x) (counts_both _ _ _ _ _ _ _ c.turns.invariant.counts tt said.counts);
+      counts = counts_both _ _ _ false c.turns.invariant.counts said.counts;
       goes = goes_on g.B.Taker.took g.B.Taker.may_refuse g.met.B.Taker.took_both _ _ _ _ _ _ said.counts.tells c.turns.invariant.goes said.turns;
     }
 
@@ -33,6 +32,6 @@ turns-init g c = record {
   room = c.requires.room;
   spare = c.requires.spare;
   wanting = c.requires.wanting;
-  counts = counts_none _ ⊤ ⊥ (λ x. x);
+  counts = counts_none _;
   goes = record { bytes = []; taken = g.met.B.Taker.took_none c.args.taker.now; rest = λ tells. refl; asks = λ tells. asks-nothing (g.D.Dialer.wire c.args.dialer.now) };
 }

@@ -1,14 +1,14 @@
-use Rattle.std.proofs.Common.{[], refl, inl, inr, Ok}
+use Rattle.std.proofs.Common.{[], length, refl, inl, inr, Ok}
 use Rattle.http_reply.specs.declared.piece_fault.PieceFault.TheVariants.{OutOfMemory}
 use Rattle.link_http.specs.Request.{Place}
 use Rattle.link_http.proofs.WireLemmas.{counts_both}
-use Rattle.link_http.proofs.TryLemmas.{dials_talked, dials_ended, counts_dial, asks_none, asks_first, keeps_dial, keeps_asking}
+use Rattle.link_http.proofs.TryLemmas.{dials_talked, dials_ended, asks_none, asks_first, keeps_dial, keeps_asking}
 use Rattle.link_http.proofs.fetch.ask.Goals as goal
 
 pub returns-in-Ok-clause-counts : goal.returns-in-Ok-clause-counts
 returns-in-Ok-clause-counts g c =
     let wire = g.D.Dialer.wire in
-    counts_both (wire c.args.dialer.now) (wire c.dial.new.self) (wire c.talk.new.dialer) _ _ _ _ c.in-Ok.ensures.counts refl c.talk.ensures.counts
+    counts_both (wire c.args.dialer.now) (wire c.dial.new.self) (wire c.talk.new.dialer) _ c.in-Ok.ensures.counts c.talk.ensures.counts
 
 pub returns-in-Ok-clause-talks : goal.returns-in-Ok-clause-talks
 returns-in-Ok-clause-talks g c = λ tells.
@@ -18,15 +18,16 @@ returns-in-Ok-clause-talks g c = λ tells.
     let new = wire c.talk.new.dialer in
     let place : Place = record { host = c.args.host.now; port = c.args.port } in
     let told = c.in-Ok.ensures.told (c.talk.ensures.counts.tells tells) in
-    let talked = c.talk.ensures.talks tells place told.opened in (
-      dials_talked (Ok tt) c.args.host.now c.args.port old now new refl told talked.0,
-      (talked.1.0, asks_first place c.args.text.now old now new talked.1.0 told.world told.talks c.in-Ok.ensures.counts.serves talked.1.1, talked.1.2),
+    let dial = length old.dials in
+    let talked = c.talk.ensures.talks tells place dial told.opened in (
+      (talked.1.0, asks_first place dial c.args.text.now old now new talked.1.0 told.world told.talks c.in-Ok.ensures.counts.serves talked.1.1, talked.1.2),
+      dials_talked (Ok tt) c.args.host.now c.args.port old now new talked.1.0 refl told talked.0,
     )
 
 pub returns-in-Err-Failed-clause-counts : goal.returns-in-Err-Failed-clause-counts
 returns-in-Err-Failed-clause-counts g c =
     let said = rw c.in-Err-Failed.field-0-is at c.in-Err-Failed.ensures in
-    counts_dial (g.D.Dialer.wire c.args.dialer.now) (g.D.Dialer.wire c.dial.new.self) said.counts
+    said.counts
 
 pub returns-in-Err-Failed-clause-kept : goal.returns-in-Err-Failed-clause-kept
 returns-in-Err-Failed-clause-kept g c = keeps_dial g.B.Taker.took g.B.Taker.may_refuse g.met.B.Taker.took_none c.args.taker.now
@@ -39,8 +40,8 @@ returns-in-Err-Failed-clause-talks g c = λ tells.
     let new = wire c.dial.new.self in
     let place : Place = record { host = c.args.host.now; port = c.args.port } in
     let told = said.told tells in (
+      ([], asks_none place (length old.dials) c.args.text.now old new told.world told.talks, (inl refl, g.met.B.Taker.took_none c.args.taker.now, refl)),
       dials_ended _ c.args.host.now c.args.port old new told,
-      ([], asks_none place c.args.text.now old new told.world told.talks, (inl refl, g.met.B.Taker.took_none c.args.taker.now, refl)),
     )
 
 pub returns-in-Err-OutOfMemory-clause-kept : goal.returns-in-Err-OutOfMemory-clause-kept
@@ -55,6 +56,6 @@ returns-in-Err-OutOfMemory-clause-talks g c = λ tells.
     let new = wire c.dial.new.self in
     let place : Place = record { host = c.args.host.now; port = c.args.port } in
     let told = said.told tells in (
+      ([], asks_none place (length old.dials) c.args.text.now old new told.world told.talks, (inr (inr refl), g.met.B.Taker.took_none c.args.taker.now, refl)),
       dials_ended _ c.args.host.now c.args.port old new told,
-      ([], asks_none place c.args.text.now old new told.world told.talks, (inr (inr refl), g.met.B.Taker.took_none c.args.taker.now, refl)),
     )

@@ -5,7 +5,7 @@ use Rattle.link_http.proofs.laws.pages_are_fetched.Goals as goal
 
 pub returns : goal.returns
 returns g c bytes there fits within steady serves never memory =
-    let wire = c.in-Ok.ensures in
+    let wire = c.in-Ok.ensures.tells in
     let url = c.args.piece.now.url in
     let leads = world_leads c.args.pages.items url bytes there in
     c.fetch_from.ensures.complete refl leads.0 bytes

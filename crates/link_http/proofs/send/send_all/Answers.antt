@@ -1,8 +1,7 @@
-use Rattle.std.proofs.Common.{◌≤◌, ◌+◌, ℕ, arith, length, drop, take, ap, subst, refl, List, length-drop}
+use Rattle.std.proofs.Common.{◌≤◌, false, ◌+◌, ℕ, arith, length, drop, take, ap, subst, refl, List, length-drop}
 use Rattle.std.specs.Prelude.{IsTrue}
 use Rattle.link_http.specs.Wire.{Sends}
-use Rattle.std.specs.Prelude.{⊤}
-use Rattle.link_http.proofs.WireLemmas.{counts_as, counts_both}
+use Rattle.link_http.proofs.WireLemmas.{counts_both}
 use Rattle.link_http.proofs.SendLemmas.{partly_more, asked_whole}
 use Rattle.link_http.proofs.send.send_all.Goals as goal
 
@@ -23,14 +22,14 @@ loop-at-preserved g c =
     record {
       connected = said.connected;
       within = within;
-      counts = counts_as old new _ _ ⊤ ⊥ (λ x. refl) (λ x. absurd x) (counts_both old now new ⊤ ⊥ _ _ before.counts tt said.counts);
-      partly = λ tells place is less.
-          partly_more place text c.loop-at.at c.in-Ok.n old now new c.requires.whole less
-          (before.partly (said.counts.tells tells) place is c.loop-at-test.true) (told tells);
-      asked = λ tells place is all.
-          asked_whole place text c.loop-at.at c.in-Ok.n old now new c.requires.whole (omega (arith, within, all))
-          (before.partly (said.counts.tells tells) place is c.loop-at-test.true) before.counts.serves (told tells);
+      counts = counts_both old now new false before.counts said.counts;
+      partly = λ tells place dial is less.
+          partly_more place dial text c.loop-at.at c.in-Ok.n old now new c.requires.whole less
+          (before.partly (said.counts.tells tells) place dial is c.loop-at-test.true) (told tells);
+      asked = λ tells place dial is all.
+          asked_whole place dial text c.loop-at.at c.in-Ok.n old now new c.requires.whole (omega (arith, within, all))
+          (before.partly (said.counts.tells tells) place dial is c.loop-at-test.true) before.counts.serves (told tells);
     }
 
 pub returns-clause-asked : goal.returns-clause-asked
-returns-clause-asked g c = λ tells place is. c.loop-at.invariant.asked tells place is c.loop-at-test.false
+returns-clause-asked g c = λ tells place dial is. c.loop-at.invariant.asked tells place dial is c.loop-at-test.false
