@@ -21,7 +21,7 @@ use Rattle.link_http.specs.Request.{Address, Place, request}
 use Rattle.link_http.specs.Wire.{Wire, Counts, Dials, AsksNothing, IsServed, left}
 use Rattle.link_http.specs.Sending.{Asked}
 use Rattle.folder_base.specs.declared.store_fault.StoreFault.TheVariants as store
-use Rattle.link_http.specs.Try.{RefusesOnlyMemory}
+use Rattle.folder_base.specs.Took.{RefusesOnlyMemory}
 use Rattle.link_http.specs.Taking.{names_call, of_store, Broke, Keeps, Follows}
 use Rattle.link_http.specs.Try.{DialsOnce, Asks, Answers, Tries, Talks, DialsAndTalks, Fetches, OfAddress, IsThere}
 use Rattle.link_http.proofs.FollowLemmas.{nothing_taken}

@@ -2,7 +2,6 @@
 use Rattle.std.specs.Prelude.{◌≡◌, ◌≢◌, ℕ, ◌≤◌, ◌⊎◌, Bool, false, IsTrue, IsFalse, All, List, slice_get, ◌<◌, [], ◌∷◌, ◌++◌, length, map, Option, Some, None, Result, Ok, Err}
 use Rattle.std.specs.Option.{option_or}
 use Rattle.folder_base.specs.declared.store_fault.StoreFault.{StoreFault}
-use Rattle.folder_base.specs.declared.store_fault.StoreFault.TheVariants as store
 use Rattle.link_http.specs.Wire.{Wire, Talk, IsServed, AsksNothing}
 use Rattle.http_reply.specs.declared.piece_fault.PieceFault.{PieceFault}
 use Rattle.http_reply.specs.declared.piece_fault.PieceFault.TheVariants.{Dial, Send, Url, Scheme, OutOfMemory}
@@ -78,11 +77,6 @@ OfAddress (Ok to) result = (result ≢ Err Url) × (result ≢ Err Scheme)
 pub record IsPaired (wire : Wire) : Type 0 where
   pub place : (i : ℕ) (talk : Talk) → slice_get wire.talks i ≡ Some talk → slice_get wire.dials talk.dial ≡ Some talk.place
   pub rising : (i j : ℕ) (a b : Talk) → i < j → slice_get wire.talks i ≡ Some a → slice_get wire.talks j ≡ Some b → a.dial < b.dial
-
--- From this taker on, whatever is put, a put is refused for want of memory alone.
-abbrev pub RefusesOnlyMemory : {T : Type 0} → (T → List ℕ → T → Type 0) → (T → List ℕ → StoreFault → Type 0) → T → Type 0
-RefusesOnlyMemory {T} took may_refuse taker =
-    (bytes : List ℕ) (later : T) → took taker bytes later → (piece : List ℕ) (fault : StoreFault) → may_refuse later piece fault → fault ≡ store.OutOfMemory
 
 -- What a resource of the world needs to be fetched: it is of these bytes, not too long, from no more than its length on,
 -- and no other total is known.

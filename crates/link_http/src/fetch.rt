@@ -1,6 +1,6 @@
 //! One try: a request for a piece from a place on, and what its reply gives.
 ghost use Rattle.std.specs.Prelude.{◌≡◌, ◌≢◌, ◌≤◌, ◌+◌, ℕ, List, [], length, None, Some, Ok, Err, IsTrue, IsSome, IfErr, IfSome};
-ghost use Rattle.link_http.specs.Try.{RefusesOnlyMemory};
+ghost use Rattle.folder_base.specs.Took.{RefusesOnlyMemory};
 ghost use Rattle.http_reply.specs.Chunked.{limit};
 ghost use Rattle.http_reply.specs.Faults.{origin, of_url};
 ghost use Rattle.http_reply.specs.Heads.{heads_room};

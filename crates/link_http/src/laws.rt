@@ -2,7 +2,7 @@
 ghost use Rattle.std.specs.Prelude.{◌≡◌, ◌≢◌, ◌≤◌, ◌+◌, ℕ, List, length, Some, Ok, Err, IsTrue};
 ghost use Rattle.http_reply.specs.Chunked.{limit};
 ghost use Rattle.link_http.specs.Memory.{world_of};
-ghost use Rattle.link_http.specs.Try.{RefusesOnlyMemory};
+ghost use Rattle.folder_base.specs.Took.{RefusesOnlyMemory};
 ghost use Rattle.link_http.specs.Turns.{plans_no_fault, plans_whole_replies};
 
 use crate::dialer_mem::DialerMem;
