@@ -12,5 +12,5 @@ silent faults stands = record {
   world = λ url. None;
   dials = [];
   talks = [];
-  line = if stands then Some (record { place = record { host = []; port = 0 }; sent = []; left = [] }) else None;
+  line = if stands then Some (record { place = record { host = []; port = 0 }; dial = 0; sent = []; left = [] }) else None;
 }

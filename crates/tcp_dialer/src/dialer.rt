@@ -1,7 +1,7 @@
-ghost use Rattle.std.specs.Prelude.{◌≡◌, ◌<◌, ◌≤◌, ◌++◌, ℕ, List, false, length, take, nat_eq, codes, IsTrue, IfOk, OnErr, IsErr, IsErrOf, IsOk, IsSome};
+ghost use Rattle.std.specs.Prelude.{◌≡◌, ◌<◌, ◌≤◌, ◌++◌, ℕ, List, false, length, take, nat_eq, codes, IsTrue, IfOk, OnErr, is_err, IsSome};
 ghost use Rattle.std.specs.Io.KnownBytes.{ReadConsumes, WriteAppends};
 ghost use Rattle.std.specs.List.{starts_with};
-ghost use Rattle.link_http.specs.Wire.{AsksNothing, Counts, Hears, Sends};
+ghost use Rattle.link_http.specs.Wire.{AsksNothing, Counts, has_failed, Hears, Sends};
 ghost use Rattle.tcp_dialer.specs.Silent.{silent};
 ghost use Rattle.tcp_dialer.specs.Stream.{told_by, wire_of};
 
@@ -64,8 +64,7 @@ impl<N: Net + Clock> Dialer for TcpDialer<'_, N> {
     fn send(&mut self, bytes: &[u8]) -> Result<usize, FolderFault>
         requires connected { IsSome (wire_of self.old).line }
         requires some { 0 < length bytes.now }
-        ensures counts { let failed = IsErrOf result FolderFault.Failed in
-            Counts (wire_of self.old) (wire_of self.new) (IsOk result) failed }
+        ensures counts { Counts (wire_of self.old) (wire_of self.new) (has_failed result) }
         ensures connected { IsSome (wire_of self.new).line }
         ensures sent { IfOk result (λ n. (0 < n) × (n ≤ length bytes.now)) }
         ensures kept { IsTrue (wire_of self.new).tells
@@ -89,7 +88,7 @@ impl<N: Net + Clock> Dialer for TcpDialer<'_, N> {
 
     fn recv(&mut self, buf: &mut [u8]) -> Result<usize, Failed>
         requires connected { IsSome (wire_of self.old).line }
-        ensures counts { Counts (wire_of self.old) (wire_of self.new) (IsOk result) (IsErr result) }
+        ensures counts { Counts (wire_of self.old) (wire_of self.new) (is_err result) }
         ensures connected { IsSome (wire_of self.new).line }
         ensures placed { IfOk result (λ n. n ≤ length buf.new) }
         ensures asks { IsTrue (wire_of self.new).tells
