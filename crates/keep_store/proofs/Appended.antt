@@ -5,7 +5,7 @@ use Rattle.std.proofs.lemmas.Option.{same_Some}
 use Rattle.text_base.specs.declared.faults.FolderFault.{FolderFault}
 use Rattle.folder_base.specs.declared.store_fault.StoreFault.{StoreFault}
 use Rattle.folder_base.specs.Disk.{Name, Bytes, File, Disk, content, appended, longer}
-use Rattle.folder_base.specs.Story.{World, stands, is_own, Next, DoesSome}
+use Rattle.folder_base.specs.Story.{World, Story, stands, is_own, Next, DoesSome}
 use Rattle.folder_base.specs.Took.{TookSome}
 use Rattle.folder_base.proofs.Images.{put_here}
 use Rattle.folder_base.proofs.Moments.{outcome_some}
@@ -15,6 +15,7 @@ use Rattle.keep_store.specs.Lane.{Seen, IsRefusal, Took, current_name}
 use Rattle.keep_store.specs.State.{seen, Holds, IsReady}
 use Rattle.keep_store.specs.declared.lane_state.LaneState.{LaneState}
 use Rattle.keep_store.proofs.Appending.{appended_has, appended_keeps, same_has, same_keeps}
+use Rattle.keep_store.proofs.LaneSteps.{apart_from, other_changed}
 use Rattle.keep_store.proofs.Naming.{own_name}
 use Rattle.keep_store.proofs.Numerals.{name_is_promising}
 
@@ -75,9 +76,11 @@ module _ (world : World) (state : LaneState) (name : Name) (name_is : name ≡ s
       folder = stays;
       held = λ some. not_fault some;
       full = λ is. not_complete is;
+      later = omega arith;
+      others = λ t other not. ap (λ (d : Disk). d.live other) (next t).now ∙ other_changed name other (longer more) world.story.now (apart_from state.stem name other is_named not);
       cause = cause;
       has = λ t before has. appended_has (seen world state) Later name is_named (is_standing (stays.tells t)) part refl more (next t)
-          (λ is. (at_current, λ b is_size. length-append b more ∙ ap (λ (n : ℕ). n + length more) is_size ∙ sym (lane_size is))) none before has;
+          (λ is. (at_current, λ b is_size. length-append b more ∙ ap (λ (n : ℕ). n + length more) is_size ∙ sym (lane_size is))) none refl before has;
       keeps = λ t entry before since. appended_keeps (seen world state) Later name is_named (is_standing (stays.tells t)) part refl more (next t) entry before since;
       complete = refl;
     }
@@ -102,8 +105,10 @@ module _ (world : World) (state : LaneState) (name : Name) (name_is : name ≡ s
       folder = stays;
       held = λ some. not_fault some;
       full = λ is. not_complete is;
+      later = omega arith;
+      others = λ t other not. ap (λ (s : Story). s.now.live other) (same t);
       cause = λ held is. inr (subst (λ (f : StoreFault). IsRefusal world new f) (same_Some fault held is) refusal);
-      has = λ t before has. same_has (seen world state) Held name is_named (is_standing (stays.tells t)) part refl (same t) not_held before has;
+      has = λ t before has. same_has (seen world state) Held name is_named (is_standing (stays.tells t)) part refl (same t) not_held refl before has;
       keeps = λ t entry before since. same_keeps (seen world state) Held name is_named (is_standing (stays.tells t)) part refl (same t) entry before since;
       complete = refl;
     }

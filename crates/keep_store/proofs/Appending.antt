@@ -1,34 +1,24 @@
 -- What a lane is once bytes were put behind its file's end.
-use Rattle.std.proofs.Common.{◌≡◌, ⊎_elim, Bool, false, IsTrue, [], ◌++◌, length, refl, sym, subst}
-use Rattle.std.specs.Prelude.{Option, None, IsSome, Result, Err, IsErrOf}
+use Rattle.std.proofs.Common.{◌≡◌, ⊎_elim, Bool, false, [], ◌++◌, length, refl, sym, subst, arith, length-append}
+use Rattle.std.specs.Prelude.{Option, None, IsSome, Result}
 use Rattle.std.proofs.lemmas.List.{append-nil}
 use Rattle.text_base.specs.declared.faults.FolderFault.{FolderFault}
-use Rattle.text_base.specs.declared.faults.FolderFault.TheVariants.{Failed, OutOfMemory}
-use Rattle.text_base.specs.declared.faults.FolderCall.{FolderCall}
 use Rattle.folder_base.specs.Disk.{Name, Bytes, File, Disk, Image, May, appended}
 use Rattle.folder_base.specs.Story.{World, Story, Next, Causes}
 use Rattle.folder_base.proofs.Images.{same_or_not}
 use Rattle.folder_base.proofs.Moments.{begun, goes_on, stays}
 use Rattle.keep_store.specs.Promise.{IsNameOf}
-use Rattle.keep_store.specs.Publish.{Stays, store_fault}
+use Rattle.keep_store.specs.Publish.{Stays}
 use Rattle.keep_store.specs.Safe.{Safe, Kept}
-use Rattle.keep_store.specs.Lane.{Seen, Lies, Has, Since, Keeps, IsRefusal, current_name}
+use Rattle.keep_store.specs.Lane.{Seen, Lies, Has, Since, Keeps, current_name}
 use Rattle.keep_store.specs.TookLaws.{kept_more}
-use Rattle.keep_store.proofs.LaneSteps.{lies_appended}
+use Rattle.keep_store.proofs.LaneSteps.{lies_appended, promises_moved}
 use Rattle.keep_store.proofs.SafeSteps.{safe_appended}
 use Rattle.keep_store.proofs.SafeImages.{safe_kept}
 
 -- what a call keeps
 pub stays_by : {T proper : Type 0} {old new : World} {result : Result T FolderFault} → Causes proper old new result → Stays old new
 stays_by is = record { tells = is.tells; still_tells = is.still_tells; steady = is.steady; faults = is.faults; refusals = is.refusals; part = is.part; out = is.out }
-
--- its fault
-pub refusal_by : {T proper : Type 0} (old new : World) (call : FolderCall) (fault : FolderFault) (result : Result T FolderFault) → result ≡ Err fault → (IsTrue old.tells → proper) → Causes proper old new result → IsRefusal old new (store_fault call fault)
-refusal_by old new call Failed result is proper causes = record { rose = causes.failed (rose_of is); steady = λ steady tells. absurd (causes.never steady (proper tells) (rose_of is)) }
-  where
-    rose_of : result ≡ Err Failed → IsErrOf result Failed
-    rose_of is = subst (λ r. IsErrOf r Failed) (sym is) refl
-refusal_by old new call OutOfMemory result is proper causes = record { rose = causes.refused (subst (λ r. IsErrOf r OutOfMemory) (sym is) refl); steady = λ steady tells. refl }
 
 -- Where a name of the piece stands, it is that of its file.
 pub same_place : (stem name current : Name) (bytes : Bytes) (disk : Disk) → Lies stem name bytes disk → IsNameOf stem current → IsSome (disk.live current) → name ≡ current
@@ -43,10 +33,13 @@ module _ (old new : Seen) (name : Name) (named : IsNameOf old.stem name) (stands
         (subst (λ (d : Disk). Lies old.stem name (before ++ more) d) (sym next.now)
         (lies_appended old.stem name before more old.world.story.now (subst (λ (n : Name). Lies old.stem n before old.world.story.now) (same_place old.stem at name before old.world.story.now lies named stands) lies)))
 
-    pub appended_has : (new.fault ≡ None → (name ≡ current_name new) × ((before : Bytes) → length before ≡ old.size → length (before ++ more) ≡ new.size)) → (old.fault ≡ None) → (before : Bytes) → Has old before → Has new (before ++ more)
-    appended_has current ready before has = record {
+    pub appended_has : (new.fault ≡ None → (name ≡ current_name new) × ((before : Bytes) → length before ≡ old.size → length (before ++ more) ≡ new.size)) → (old.fault ≡ None) → new.promised ≡ old.promised
+        → (before : Bytes) → Has old before → Has new (before ++ more)
+    appended_has current ready promised_is before has = record {
       name = name;
       lies = lies_after has.name before has.lies;
+      promises = promises_moved old.stem new.stem has.name name (length before) (length (before ++ more)) old.promised new.promised stem_is (same_place old.stem has.name name before old.world.story.now has.lies named stands)
+          (omega (arith, length-append before more)) (omega (arith, promised_is)) has.promises;
       current = λ none. ((current none).0, (current none).1 before (has.current ready).1);
     }
 
@@ -74,9 +67,10 @@ module _ (old new : Seen) (name : Name) (named : IsNameOf old.stem name) (stands
 
   -- where nothing was done
   module _ (same : new.world.story ≡ old.world.story) where
-    pub same_has : (new.fault ≡ None → ⊥) → (before : Bytes) → Has old before → Has new (before ++ [])
-    same_has held before has = subst (λ (b : Bytes). Has new b) (sym (append-nil before)) (record {
+    pub same_has : (new.fault ≡ None → ⊥) → new.promised ≡ old.promised → (before : Bytes) → Has old before → Has new (before ++ [])
+    same_has held promised_is before has = subst (λ (b : Bytes). Has new b) (sym (append-nil before)) (record {
       name = has.name;
+      promises = promises_moved old.stem new.stem has.name has.name (length before) (length before) old.promised new.promised stem_is refl (omega arith) (omega (arith, promised_is)) has.promises;
       lies = subst (λ (s : Name). Lies s has.name before new.world.story.now) (sym stem_is) (subst (λ (d : Story). Lies old.stem has.name before d.now) (sym same) has.lies);
       current = λ none. absurd (held none);
     })

@@ -1,5 +1,5 @@
 -- A piece is found: complete, or at its greatest promise, or not at all.
-use Rattle.std.proofs.Common.{◌≡◌, inl, inr, ℕ, zero, suc, ◌-◌, ◌<◌, ◌≤◌, ◌^◌, Bool, true, false, List, [], ◌∷◌, ◌++◌, length, take, drop, refl, sym, ◌∙◌, ap, subst, arith, lit<, length-append, take-append-drop, decimal}
+use Rattle.std.proofs.Common.{◌≡◌, inl, inr, ⊎_elim, ℕ, zero, suc, ◌-◌, ◌<◌, ◌≤◌, ◌^◌, Bool, true, false, List, [], ◌∷◌, ◌++◌, length, take, drop, refl, sym, ◌∙◌, ap, subst, arith, lit<, length-append, take-append-drop, decimal}
 use Rattle.std.specs.Prelude.{Result, Option, Some, None, IsSome, IsNone, is_some, option_map, nat_lt, unwrap_or, bytes_eq, if◌then◌else◌}
 use Rattle.std.proofs.lemmas.Bool.Decides.{nat_tests}
 use Rattle.std.proofs.lemmas.List.{take_all, length-take-le}
@@ -9,11 +9,13 @@ use Rattle.folder_base.specs.Names.{Lists}
 use Rattle.folder_base.specs.Story.{World, Story, Next, Reads, Through}
 use Rattle.folder_base.proofs.Images.{put_here, put_there}
 use Rattle.folder_base.proofs.Moments.{begun, may_go_on, weaker}
-use Rattle.keep_store.specs.Promise.{promise_prefix, promising, promise_name, Promises, IsPromise, PieceSound}
+use Rattle.keep_store.specs.Lane.{SameOthers}
+use Rattle.keep_store.specs.Promise.{IsNameOf, promise_prefix, promising, promise_name, Promises, IsPromise, PieceSound}
 use Rattle.keep_store.specs.Publish.{Stays}
 use Rattle.keep_store.specs.Safe.{reads, Safe, Kept}
 use Rattle.keep_store.specs.Opening.{StandsAt, AtMost, IsGreatest, CanBegin, begun_at, MayBegin, Finds}
 use Rattle.keep_store.specs.Opens.{KeepsPiece, KeepsPromise}
+use Rattle.keep_store.proofs.LaneSteps.{apart_from}
 use Rattle.keep_store.proofs.Naming.{begins_all}
 use Rattle.keep_store.proofs.Numerals.{printed, decimal_is_number, number_of-decimal}
 use Rattle.keep_store.proofs.Opened.{one_promise, entry_images, entry_kept, kept_sound, safe_whole, safe_cut, safe_new}
@@ -22,8 +24,8 @@ use Rattle.keep_store.proofs.SafeImages.{safe_kept}
 -- Before anything is done the piece is kept.
 pub keeps_begun : (stem : Name) (story : Story) → KeepsPromise stem story story
 keeps_begun stem story settled = record {
-  promise = λ bytes is. begun story (Kept stem story.now bytes (is_some (story.now.live stem))) (entry_kept stem story.now bytes (is_some (story.now.live stem)) settled is);
-  sound = λ all was. begun story (PieceSound all stem) (λ image may. subst (λ (i : Image). PieceSound all stem i) (sym (entry_images story.now settled image may)) was);
+  promise = begun story (λ image. (bytes : Bytes) → IsPromise stem (reads story.now) bytes → Kept stem story.now bytes (is_some (story.now.live stem)) image) (λ image may bytes is. entry_kept stem story.now bytes (is_some (story.now.live stem)) settled is image may);
+  sound = begun story (λ image. (all : Option Bytes) → PieceSound all stem (reads story.now) → PieceSound all stem image) (λ image may all was. subst (λ (i : Image). PieceSound all stem i) (sym (entry_images story.now settled image may)) was);
 }
 
 pub keeps_same : (stem : Name) (old new : Story) → new ≡ old → KeepsPromise stem old new
@@ -32,8 +34,8 @@ keeps_same stem old new same = subst (λ (s : Story). KeepsPromise stem old s) (
 -- Where promised bytes are kept, the piece is.
 pub keeps_bytes : (stem : Name) (old new : Story) (bytes : Bytes) → IsPromise stem (reads old.now) bytes → Through old new (Kept stem old.now bytes (is_some (old.now.live stem))) → KeepsPiece stem old new
 keeps_bytes stem old new bytes is kept = record {
-  promise = λ other also. subst (λ (b : Bytes). Through old new (Kept stem old.now b (is_some (old.now.live stem)))) (one_promise stem (reads old.now) bytes other is also) kept;
-  sound = λ all was. weaker kept (kept_sound all stem old.now bytes was is);
+  promise = weaker kept (λ image one other also. subst (λ (b : Bytes). Kept stem old.now b (is_some (old.now.live stem)) image) (one_promise stem (reads old.now) bytes other is also) one);
+  sound = weaker kept (λ image one all was. kept_sound all stem old.now bytes was is image one);
 }
 
 -- what a call that reads keeps
@@ -230,7 +232,7 @@ module _ (stem : Name) (old : Story) (names : List Name) (lists : Lists (promise
   pub keeps_moved : (most : Option ℕ) → IsGreatest (promise_prefix stem) old.now.live names (length names) most → unwrap_or most 0 < 2 ^ 64 → (new : Story)
       → MayBegin (name_of most) most old new → KeepsPromise stem old new
   keeps_moved most greatest small new told settled = keeps_bytes stem old new (goes most greatest small).bytes (goes most greatest small).promise
-      (may_go_on ((keeps_begun stem old settled).promise (goes most greatest small).bytes (goes most greatest small).promise) told here)
+      (may_go_on (weaker (keeps_begun stem old settled).promise (λ image one. one (goes most greatest small).bytes (goes most greatest small).promise)) told here)
     where
       here : (image : Image) → May (begun_at (name_of most) most old.now) image → Kept stem old.now (goes most greatest small).bytes (is_some (old.now.live stem)) image
       here image may =
@@ -279,3 +281,20 @@ module _ (stem : Name) (old mid : Story) (names : List Name) (most : Option ℕ)
     where
       by : (n : Name) → promise_name stem (unwrap_or most 0) ≡ n → MayBegin n most old new → KeepsPromise stem old new
       by n e = subst (λ (m : Name). MayBegin m most old new → KeepsPromise stem old new) e (keeps_moved stem old names is.lists is.part most is.greatest less new)
+
+-- Where nothing was done, names that are not the piece's are as they were,
+pub others_same : (stem : Name) (old new : World) → new.story ≡ old.story → SameOthers stem old new
+others_same stem old new same name not = ap (λ (s : Story). s.now.live name) same
+
+-- and so they are where the piece's file was begun.
+pub others_begun : (stem name : Name) (most : Option ℕ) (old mid new : World) → IsNameOf stem name → mid.story ≡ old.story → MayBegin name most mid.story new.story → SameOthers stem old new
+others_begun stem name most old mid new named same told other not = ⊎_elim
+    (λ none. ap (λ (s : Story). s.now.live other) (none ∙ same))
+    (λ next. ap (λ (d : Disk). d.live other) next.now ∙ begun_other most ∙ ap (λ (s : Story). s.now.live other) same) told
+  where
+    apart : bytes_eq name other ≡ false
+    apart = apart_from stem name other named not
+
+    begun_other : (most : Option ℕ) → (begun_at name most mid.story.now).live other ≡ mid.story.now.live other
+    begun_other None = put_there mid.story.now.live name other (Some empty_file) apart
+    begun_other (Some len) = put_there mid.story.now.live name other (option_map (shorter len) (mid.story.now.live name)) apart

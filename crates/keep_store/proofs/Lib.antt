@@ -1,5 +1,6 @@
 pub mod Appended
 pub mod Appending
+pub mod Counted
 pub mod Finding
 pub mod Found
 pub mod LaneSteps
@@ -7,9 +8,11 @@ pub mod Moved
 pub mod Naming
 pub mod Numerals
 pub mod Opened
+pub mod PieceNames
 pub mod Promised
 pub mod Promising
 pub mod Published
+pub mod Refusals
 pub mod Removing
 pub mod Resumed
 pub mod Runs

@@ -56,11 +56,11 @@ module _ (all : Option Bytes) (stem : Name) (entry : Disk) (bytes : Bytes) (was 
   none_first None none = none
   none_first (Some world) none = (world, ap (λ (b : Bytes). b ++ world) (sym none))
 
-  promised_first : IsPromise stem (reads entry) bytes → AreFirst all bytes
+  pub promised_first : IsPromise stem (reads entry) bytes → AreFirst all bytes
   promised_first (inl whole) = subst (λ (o : Option Bytes). AreFirst o bytes) (sym (whole_all whole)) ([], sym (append-nil bytes))
   promised_first (inr part) = ⊎_elim (λ none. none_first all none) (λ some. was.promised some.0 bytes some.1) part.promised
 
-  promised_all : IsPromise stem (reads entry) bytes → is_some (entry.live stem) ≡ true → all ≡ Some bytes
+  pub promised_all : IsPromise stem (reads entry) bytes → is_some (entry.live stem) ≡ true → all ≡ Some bytes
   promised_all (inl whole) stands = whole_all whole
   promised_all (inr part) stands = by (entry.live stem) refl
     where

@@ -1,5 +1,5 @@
 -- A lane's state once all its bytes were promised.
-use Rattle.std.proofs.Common.{◌≡◌, inl, inr, ⊎_elim, ℕ, ◌<◌, ◌^◌, Bool, true, false, IsTrue, [], length, refl, sym, ◌∙◌, ap, subst, arith, string_bytes}
+use Rattle.std.proofs.Common.{◌≡◌, inl, inr, ⊎_elim, ℕ, ◌<◌, ◌≤◌, ◌^◌, Bool, true, false, IsTrue, [], length, refl, sym, ◌∙◌, ap, subst, arith, string_bytes}
 use Rattle.std.specs.Prelude.{Option, Some, None, option_map, bytes_eq, if◌then◌else◌}
 use Rattle.std.proofs.lemmas.Option.{same_Some}
 use Rattle.std.proofs.lemmas.Fmt.{decimal_injective}
@@ -9,12 +9,14 @@ use Rattle.folder_base.specs.Story.{World, is_own}
 use Rattle.folder_base.proofs.Images.{same_or_not, put_here}
 use Rattle.keep_store.specs.Promise.{IsNameOf, promise_name}
 use Rattle.keep_store.specs.Publish.{Stays, IsMoving}
-use Rattle.keep_store.specs.Lane.{Seen, Has, IsRefusal, Took, Finishes, current_name}
+use Rattle.keep_store.specs.Lane.{Seen, Has, IsRefusal, Took, Finishes, PromisesAtLeast, current_name}
 use Rattle.keep_store.specs.State.{seen, Holds, IsReady}
 use Rattle.keep_store.specs.declared.lane_state.LaneState.{LaneState}
 use Rattle.keep_store.proofs.Appended.{at_current, is_named, not_fault, not_complete, not_held, current_is}
+use Rattle.keep_store.proofs.LaneSteps.{other_moving}
 use Rattle.keep_store.proofs.Naming.{own_name}
-use Rattle.keep_store.proofs.Numerals.{not_whole, name_is_promising, same_promising}
+use Rattle.keep_store.proofs.Numerals.{decimal_is_number, number_of-decimal, not_whole, name_is_promising, same_promising}
+use Rattle.std.specs.Fmt.{decimal}
 use Rattle.keep_store.proofs.Promising.{has_done, has_ended, part_keeps, whole_moments, whole_since}
 use Rattle.std.proofs.lemmas.List.{append-nil}
 use Rattle.std.specs.Prelude.{String}
@@ -60,6 +62,16 @@ module _ (world : World) (state : LaneState) (name : Name) (name_is : name ≡ s
     differ_part : bytes_eq name to ≡ false
     differ_part = (λ i. bytes_eq (from_is i) (to_is i)) ∙ names_differ state.stem state.promised state.size (omega (arith, holds.promised, small)) small apart
 
+    -- It promises all, so no less than what was promised.
+    promises_part : (count : ℕ) → count ≤ state.size → PromisesAtLeast state.stem to state.size count
+    promises_part count fewer = inr (record {
+      digits = decimal state.size;
+      number = decimal_is_number state.size small;
+      is = to_is;
+      least = omega (arith, number_of-decimal state.size small, fewer);
+      most = omega (arith, number_of-decimal state.size small);
+    })
+
     module _ (new : World) (stays : Stays world new) (moved : IsTrue new.tells → IsMoving name to world.story new.story) where
       module _ (fault : StoreFault) (refusal : IsRefusal world new fault) where
         abbrev Part_held : Seen
@@ -73,9 +85,11 @@ module _ (world : World) (state : LaneState) (name : Name) (name_is : name ≡ s
           folder = stays;
           held = λ some. not_fault world state name name_is holds ready none part small some;
           full = λ is. refl;
+          later = omega arith;
+          others = λ t other not. other_moving state.stem name to other world.story new.story named named_to (moved t) not;
           cause = λ held is. inr (subst (λ (f : StoreFault). IsRefusal world new f) (same_Some fault held is) refusal);
           has = λ t before has. subst (λ (b : Bytes). Has Part_held b) (sym (append-nil before))
-              (has_ended (seen world state) Part_held name to refl part named named_to differ_part (sized (stays.tells t)) (moved t) not_held before has);
+              (has_ended (seen world state) Part_held name to refl part named named_to differ_part (sized (stays.tells t)) (moved t) not_held refl (promises_part state.promised holds.promised) before has);
           keeps = λ t entry before since. part_keeps (seen world state) Part_held name to refl part named named_to differ_part (sized (stays.tells t)) (moved t) entry before since small to_is;
         }
 
@@ -94,9 +108,11 @@ module _ (world : World) (state : LaneState) (name : Name) (name_is : name ≡ s
           folder = stays;
           held = λ some. not_fault world state name name_is holds ready none part small some;
           full = λ is. refl;
+          later = omega (arith, holds.promised);
+          others = λ t other not. other_moving state.stem name to other world.story new.story named named_to (moved t) not;
           cause = λ held is. inl is;
           has = λ t before has. subst (λ (b : Bytes). Has Part_done b) (sym (append-nil before))
-              (has_done (seen world state) Part_done name to refl part named named_to differ_part (sized (stays.tells t)) (moved t) (done t) (λ is. (to_current, refl)) before has);
+              (has_done (seen world state) Part_done name to refl part named named_to differ_part (sized (stays.tells t)) (moved t) (done t) (λ is. (to_current, refl)) (promises_part state.size (omega arith)) before has);
           keeps = λ t entry before since. part_keeps (seen world state) Part_done name to refl part named named_to differ_part (sized (stays.tells t)) (moved t) entry before since small to_is;
         }
 
@@ -130,8 +146,10 @@ module _ (world : World) (state : LaneState) (name : Name) (name_is : name ≡ s
           stem = refl;
           folder = stays;
           held = λ some. not_fault world state name name_is holds ready none part small some;
+          later = omega arith;
+          others = λ t other not. other_moving state.stem name to other world.story new.story named named_whole (moved t) not;
           cause = λ held is. inr (subst (λ (f : StoreFault). IsRefusal world new f) (same_Some fault held is) refusal);
-          has = λ t bytes has. has_ended (seen world state) Whole_held name to refl part named named_whole differ_whole (sized (stays.tells t)) (moved t) not_held bytes has;
+          has = λ t bytes has. has_ended (seen world state) Whole_held name to refl part named named_whole differ_whole (sized (stays.tells t)) (moved t) not_held refl (inl (to_is, holds.promised)) bytes has;
           moments = λ t entry bytes since. whole_moments (seen world state) Whole_held name to refl part named named_whole differ_whole (sized (stays.tells t)) (moved t) entry bytes since to_is;
           since = λ t is. not_complete world state name name_is holds ready none part small is;
         }
@@ -146,8 +164,10 @@ module _ (world : World) (state : LaneState) (name : Name) (name_is : name ≡ s
           stem = refl;
           folder = stays;
           held = λ some. not_fault world state name name_is holds ready none part small some;
+          later = omega (arith, holds.promised);
+          others = λ t other not. other_moving state.stem name to other world.story new.story named named_whole (moved t) not;
           cause = λ held is. inl is;
-          has = λ t bytes has. has_done (seen world state) Whole_done name to refl part named named_whole differ_whole (sized (stays.tells t)) (moved t) (done t) (λ is. (to_is, refl)) bytes has;
+          has = λ t bytes has. has_done (seen world state) Whole_done name to refl part named named_whole differ_whole (sized (stays.tells t)) (moved t) (done t) (λ is. (to_is, refl)) (inl (to_is, omega arith)) bytes has;
           moments = λ t entry bytes since. whole_moments (seen world state) Whole_done name to refl part named named_whole differ_whole (sized (stays.tells t)) (moved t) entry bytes since to_is;
           since = λ t is entry bytes since. whole_since (seen world state) Whole_done name to refl part named named_whole differ_whole (sized (stays.tells t)) (moved t) entry bytes since to_is (done t);
         }

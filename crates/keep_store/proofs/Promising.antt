@@ -11,9 +11,9 @@ use Rattle.keep_store.specs.TookLaws.{took_none}
 use Rattle.keep_store.specs.Promise.{IsNameOf, promise_name}
 use Rattle.keep_store.specs.Publish.{IsMoving}
 use Rattle.keep_store.specs.Safe.{MayName, Safe, Kept}
-use Rattle.keep_store.specs.Lane.{Seen, Lies, Has, Since, Keeps, Finishes, current_name}
+use Rattle.keep_store.specs.Lane.{Seen, Lies, Has, Since, Keeps, Finishes, PromisesAtLeast, current_name}
 use Rattle.keep_store.proofs.Appending.{same_place}
-use Rattle.keep_store.proofs.LaneSteps.{lies_synced, lies_renamed}
+use Rattle.keep_store.proofs.LaneSteps.{lies_synced, lies_renamed, promises_moved}
 use Rattle.keep_store.proofs.SafeSteps.{safe_synced, safe_moved}
 use Rattle.keep_store.proofs.SafeImages.{safe_kept, front_long}
 use Rattle.keep_store.proofs.Numerals.{decimal_is_number, number_of-decimal}
@@ -85,23 +85,32 @@ module _ (lane new : Seen) (from to : Name) (stem_is : new.stem ≡ lane.stem) (
   lies_end : (name : Name) (bytes : Bytes) → Lies lane.stem name bytes lane.world.story.now → Lies lane.stem to bytes At_end
   lies_end name bytes lies = lies_renamed lane.stem from to bytes (synced from lane.world.story.now) named (lies_synced lane.stem from bytes lane.world.story.now (lies_from name bytes lies))
 
-  pub has_done : new.world.story.now ≡ At_end → (new.fault ≡ None → (to ≡ current_name new) × (new.size ≡ lane.size)) → (bytes : Bytes) → Has lane bytes → Has new bytes
-  has_done done current bytes has = record {
+  -- what the new name promises
+  promises_at : (bytes : Bytes) → Lies lane.stem from bytes lane.world.story.now → PromisesAtLeast lane.stem to lane.size new.promised → PromisesAtLeast new.stem to (length bytes) new.promised
+  promises_at bytes lies promises = promises_moved lane.stem new.stem to to lane.size (length bytes) new.promised new.promised stem_is refl (omega (arith, count bytes lies)) (omega arith) promises
+
+  pub has_done : new.world.story.now ≡ At_end → (new.fault ≡ None → (to ≡ current_name new) × (new.size ≡ lane.size)) → PromisesAtLeast lane.stem to lane.size new.promised → (bytes : Bytes) → Has lane bytes → Has new bytes
+  has_done done current promises bytes has = record {
     name = to;
+    promises = promises_at bytes (lies_from has.name bytes has.lies) promises;
     lies = lies_there to bytes At_end done (lies_end has.name bytes has.lies);
     current = λ none. ((current none).0, count bytes (lies_from has.name bytes has.lies) ∙ sym (current none).1);
   }
 
-  pub has_ended : (new.fault ≡ None → ⊥) → (bytes : Bytes) → Has lane bytes → Has new bytes
-  has_ended held bytes has = by moving.ends
+  pub has_ended : (new.fault ≡ None → ⊥) → new.promised ≡ lane.promised → PromisesAtLeast lane.stem to lane.size new.promised → (bytes : Bytes) → Has lane bytes → Has new bytes
+  has_ended held promised_is promises bytes has = by moving.ends
     where
-      at : (name : Name) → Lies new.stem name bytes new.world.story.now → Has new bytes
-      at name lies = record { name = name; lies = lies; current = λ none. absurd (held none) }
+      at : (name : Name) → Lies new.stem name bytes new.world.story.now → PromisesAtLeast new.stem name (length bytes) new.promised → Has new bytes
+      at name lies promises = record { name = name; lies = lies; promises = promises; current = λ none. absurd (held none) }
+
+      as_before : PromisesAtLeast new.stem from (length bytes) new.promised
+      as_before = promises_moved lane.stem new.stem has.name from (length bytes) (length bytes) lane.promised new.promised stem_is
+          (same_place lane.stem has.name from bytes lane.world.story.now has.lies named_from stands) (omega arith) (omega (arith, promised_is)) has.promises
 
       by : (new.world.story.now ≡ lane.world.story.now) ⊎ ((new.world.story.now ≡ synced from lane.world.story.now) ⊎ (new.world.story.now ≡ At_end)) → Has new bytes
-      by (inl same) = at from (lies_there from bytes lane.world.story.now same (lies_from has.name bytes has.lies))
-      by (inr (inl firm)) = at from (lies_there from bytes (synced from lane.world.story.now) firm (lies_synced lane.stem from bytes lane.world.story.now (lies_from has.name bytes has.lies)))
-      by (inr (inr done)) = at to (lies_there to bytes At_end done (lies_end has.name bytes has.lies))
+      by (inl same) = at from (lies_there from bytes lane.world.story.now same (lies_from has.name bytes has.lies)) as_before
+      by (inr (inl firm)) = at from (lies_there from bytes (synced from lane.world.story.now) firm (lies_synced lane.stem from bytes lane.world.story.now (lies_from has.name bytes has.lies))) as_before
+      by (inr (inr done)) = at to (lies_there to bytes At_end done (lies_end has.name bytes has.lies)) (promises_at bytes (lies_from has.name bytes has.lies) promises)
 
   module _ (entry : Disk) (bytes : Bytes) (since : Since lane.complete lane entry bytes) where
     from_is : since.name ≡ from
@@ -161,6 +170,8 @@ finishes_none lane part = record {
   stem = refl;
   folder = (took_none lane).folder;
   held = λ some. refl;
+  later = omega arith;
+  others = λ t name not. refl;
   cause = λ fault is. inl is;
   has = λ t bytes has. has;
   moments = λ t entry bytes since. begun lane.world.story (Kept lane.stem entry bytes true) (λ image may. kept_whole lane.stem entry bytes lane.complete image part (since.kept image may));

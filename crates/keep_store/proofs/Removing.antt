@@ -13,7 +13,7 @@ use Rattle.std.proofs.lemmas.List.Elements.{Contains-get_or}
 use Rattle.folder_base.specs.Story.{Story, Next}
 use Rattle.folder_base.proofs.Images.{same_or_not, same_name, put_here, put_there, put_elim}
 use Rattle.folder_base.proofs.Moments.{begun, goes_on}
-use Rattle.keep_store.specs.Opening.{IsOther, Removes, Secures, MayRemove, AllStand}
+use Rattle.keep_store.specs.Opening.{IsOther, Removes, KeepsOthers, Secures, MayRemove, AllStand}
 use Rattle.keep_store.specs.Safe.{Safe, Kept}
 use Rattle.keep_store.proofs.SafeSteps.{safe_removed}
 use Rattle.keep_store.proofs.SafeImages.{safe_kept}
@@ -119,3 +119,12 @@ left_after prefix current names i name mid new below is_name sorted (inl same) l
 
 pub first_left : (live : Names) (names : List Name) → AllStand live names → LeftFrom 0 names live
 first_left live names all k d from inside = all.each (get_or names k d) (Contains-get_or names k d inside)
+
+-- A name that is none of those is as it was.
+pub others_after : (prefix current name : Name) (old mid new : Story) → MayRemove prefix current name mid new → KeepsOthers prefix current old.now mid.now → KeepsOthers prefix current old.now new.now
+others_after prefix current name old mid new told before other not = ⊎_elim
+    (λ same. ap (λ (s : Story). s.now.live other) same ∙ before other not)
+    (λ done. ap (λ (d : Disk). d.live other) done.1.now ∙ put_there mid.now.live name other None (apart done.0) ∙ before other not) told
+  where
+    apart : IsOther prefix current name → bytes_eq name other ≡ false
+    apart is = ⊎_elim (λ same. absurd (not (subst (λ (n : Name). IsOther prefix current n) same.1 is))) (λ differs. differs) (same_or_not name other)

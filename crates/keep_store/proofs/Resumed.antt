@@ -1,6 +1,7 @@
 -- A lane goes on from the piece that was found, once its other names are removed.
 use Rattle.std.proofs.Common.{◌≡◌, ◌⊎◌, inl, inr, ⊎_elim, ℕ, ◌+◌, ◌<◌, ◌≤◌, ◌^◌, Bool, true, false, IsTrue, List, ◌++◌, length, refl, sym, ◌∙◌, ap, subst, arith, string_bytes}
 use Rattle.std.specs.Prelude.{Contains, Result, Err, IsErrOf, ⊤, Option, Some, None, IsSome, is_some, option_map, bytes_eq}
+use Rattle.std.specs.Fmt.{decimal}
 use Rattle.std.specs.String.{string_capacity}
 use Rattle.text_base.specs.declared.faults.FolderFault.{FolderFault}
 use Rattle.text_base.specs.declared.faults.FolderFault.TheVariants.{Failed, OutOfMemory}
@@ -11,19 +12,19 @@ use Rattle.folder_base.specs.Disk.{Name, Bytes, File, content, begins}
 use Rattle.folder_base.specs.Names.{Lists}
 use Rattle.folder_base.specs.Story.{World, Story, Asks, Same, Through}
 use Rattle.folder_base.proofs.Images.{same_or_not, same_name}
-use Rattle.folder_base.proofs.Moments.{joined}
+use Rattle.folder_base.proofs.Moments.{joined, weaker}
 use Rattle.keep_store.specs.Promise.{promise_prefix, IsNameOf}
 use Rattle.keep_store.specs.Publish.{Stays, store_fault}
 use Rattle.keep_store.specs.Safe.{Kept}
-use Rattle.keep_store.specs.Lane.{Seen, IsLaneFolder, Lies, IsRefusal, current_name}
+use Rattle.keep_store.specs.Lane.{Seen, IsLaneFolder, Lies, IsRefusal, PromisesAtLeast, SameOthers, current_name}
 use Rattle.keep_store.specs.State.{seen, IsLane}
-use Rattle.keep_store.specs.Opening.{AllStand, Finds, found_name, Removes, Secures}
+use Rattle.keep_store.specs.Opening.{AllStand, Finds, found_name, Removes, KeepsOthers, Secures}
 use Rattle.keep_store.specs.Opens.{KeepsPromise, Resumes, Opens, NotOpened}
 use Rattle.keep_store.specs.declared.lane_state.LaneState.{LaneState}
 use Rattle.keep_store.specs.TookLaws.{stays_none, stays_both, refusal_later}
 use Rattle.keep_store.proofs.Naming.{begins_all, folder_after}
-use Rattle.keep_store.proofs.Numerals.{name_is_promising}
-use Rattle.keep_store.proofs.Found.{keeps_begun, keeps_same, keeps_bytes}
+use Rattle.keep_store.proofs.Numerals.{decimal_is_number, number_of-decimal, name_is_promising}
+use Rattle.keep_store.proofs.Found.{keeps_begun, keeps_same, keeps_bytes, others_same}
 use Rattle.keep_store.proofs.SafeSteps.{differ_back}
 use Rattle.keep_store.proofs.SafeImages.{safe_kept}
 
@@ -39,7 +40,7 @@ all_stand stem prefix current complete size old mid names lists finds = record {
 
 -- The removals keep what was promised.
 pub keeps_secured : (stem current : Name) (complete : Bool) (size : ℕ) (old mid new : Story) → Finds stem current complete size old mid → Secures current mid new → KeepsPromise stem old mid → KeepsPromise stem old new
-keeps_secured stem current complete size old mid new finds secures keeps settled = keeps_bytes stem old new finds.bytes finds.promise (joined ((keeps settled).promise finds.bytes finds.promise)
+keeps_secured stem current complete size old mid new finds secures keeps settled = keeps_bytes stem old new finds.bytes finds.promise (joined (weaker (keeps settled).promise (λ image one. one finds.bytes finds.promise))
     (subst (λ (b : Bool). Through mid new (Kept stem old.now finds.bytes b)) finds.known (secures stem old.now finds.bytes complete (finds.safe settled)).0))
 
 module _ (stem prefix current : Name) (complete : Bool) (size : ℕ) (old mid new : Story) (names : List Name) (prefix_is : prefix ≡ promise_prefix stem) (name_is : current ≡ found_name stem complete size) (small : size < 2 ^ 64)
@@ -75,6 +76,20 @@ module _ (stem prefix current : Name) (complete : Bool) (size : ℕ) (old mid ne
           let place = (lists.each other).1 (subst (λ (n : Name). IsTrue (begins prefix n)) (sym name_of) (begins_all prefix promising.digits), subst (λ (o : Option File). IsSome o) (sym is) refl) in
           removes.gone place.0 other place.1 place.1 place.2 (record { digits = promising.digits; number = promising.number; is = name_of; apart = differ_back current other apart })
 
+  -- The name promises all.
+  pub found_promises : (count : ℕ) → length finds.bytes ≡ size → count ≡ size → PromisesAtLeast stem current (length finds.bytes) count
+  found_promises count count_is all = by complete name_is
+    where
+      by : (b : Bool) → current ≡ found_name stem b size → PromisesAtLeast stem current (length finds.bytes) count
+      by true e = inl (e, omega (arith, count_is, all))
+      by false e = inr (record {
+        digits = decimal size;
+        number = decimal_is_number size small;
+        is = e;
+        least = omega (arith, number_of-decimal size small, all);
+        most = omega (arith, number_of-decimal size small, count_is);
+      })
+
   pub found_lies : Lies stem current finds.bytes new.now
   found_lies = record { file = finds.file; stands = still_stands; reads_as = finds.reads_as; named = current_named; only = only }
 
@@ -101,7 +116,12 @@ module _ (old world : World) (mid : Story) (state : LaneState) (prefix : Name) (
     bytes = (finds t).bytes;
     promise = (finds t).promise;
     complete = (finds t).known;
-    has = record { name = string_bytes state.current; lies = lies_now t; current = λ none. (is_current, (finds t).count) };
+    has = record {
+      name = string_bytes state.current;
+      lies = lies_now t;
+      promises = found_promises state.stem prefix (string_bytes state.current) state.complete state.size old.story mid world.story names prefix_is name_is small (lists t) (finds t) (removes t) state.promised (finds t).count all;
+      current = λ none. (is_current, (finds t).count);
+    };
     others = found_others state.stem prefix (string_bytes state.current) state.complete state.size old.story mid world.story names prefix_is name_is small (lists t) (finds t) (removes t);
     moments = keeps_secured state.stem (string_bytes state.current) state.complete state.size old.story mid world.story (finds t) (secures t) (keeps t);
     since = λ settled. let safe = (secures t state.stem old.story.now (finds t).bytes state.complete ((finds t).safe settled)).1 in record {
@@ -151,20 +171,29 @@ opens_asked old mid number stem lane stays same is = record {
 
 -- No lane was opened: before anything was done, as the folder was asked for its names, or later.
 pub none_opened : (stem : Name) (world : World) → NotOpened stem world world NoMemory
-none_opened stem world = record { folder = stays_none world; cause = inl refl; moments = λ t. keeps_begun stem world.story }
+none_opened stem world = record { folder = stays_none world; others = λ t name not. refl; cause = inl refl; moments = λ t. keeps_begun stem world.story }
 
 pub names_refused : (stem : Name) (old new : World) {T : Type 0} (fault : FolderFault) (result : Result T FolderFault) → result ≡ Err fault → Asks ⊤ old new result → Same old new → NotOpened stem old new (store_fault Names fault)
-names_refused stem old new {T} fault result is asks same = record { folder = stays_asked asks same; cause = by fault is; moments = λ t. keeps_same stem old.story new.story (same.story t) }
+names_refused stem old new {T} fault result is asks same = record { folder = stays_asked asks same; others = λ t. others_same stem old new (same.story t); cause = by fault is; moments = λ t. keeps_same stem old.story new.story (same.story t) }
   where
     by : (f : FolderFault) → result ≡ Err f → (store_fault Names f ≡ NoMemory) ⊎ IsRefusal old new (store_fault Names f)
     by OutOfMemory e = inl refl
     by Failed e = let failed = subst (λ (r : Result T FolderFault). IsErrOf r Failed) (sym e) refl in
-        inr (record { rose = asks.failed failed; steady = λ steady tells. absurd (asks.never steady tt failed) })
+        inr (record {
+          rose = record { before = old; after = new; earlier = stays_none old; fails = record { rose = asks.failed failed; told = λ t. inl (same.story t) }; later = stays_none new };
+          steady = λ steady tells. absurd (asks.never steady tt failed);
+        })
 
 pub later_refused : (stem at : Name) (old mid new : World) (fault : StoreFault) → at ≡ stem → Stays old mid → (IsTrue mid.tells → mid.story ≡ old.story) → Stays mid new → IsRefusal mid new fault → (IsTrue new.tells → KeepsPromise at mid.story new.story)
-    → NotOpened stem old new fault
-later_refused stem at old mid new fault at_is first same second refused keeps = record {
+    → (IsTrue new.tells → SameOthers at mid new) → NotOpened stem old new fault
+later_refused stem at old mid new fault at_is first same second refused keeps others = record {
   folder = stays_both first second;
+  others = λ t name not. others t name (λ is. not (subst (λ (n : Name). IsNameOf n name) at_is is)) ∙ ap (λ (s : Story). s.now.live name) (same (second.tells t));
   cause = inr (refusal_later first refused);
   moments = λ t. subst (λ (s : Story). KeepsPromise stem s new.story) (same (second.tells t)) (subst (λ (n : Name). KeepsPromise n mid.story new.story) at_is (keeps t));
 }
+
+-- The removal of a piece's other names leaves the names that are not the piece's.
+pub others_removed : (stem prefix current : Name) (old mid new : World) → prefix ≡ promise_prefix stem → SameOthers stem old mid → KeepsOthers prefix current mid.story.now new.story.now → SameOthers stem old new
+others_removed stem prefix current old mid new prefix_is before removed name not =
+    removed name (λ other. not (inr (record { digits = other.digits; number = other.number; is = other.is ∙ ap (λ (p : Name). p ++ other.digits) prefix_is }))) ∙ before name not

@@ -1,11 +1,11 @@
 -- A lane: a piece's file, which is given bytes, and whose name promises some of them.
-use Rattle.std.specs.Prelude.{◌≡◌, ◌⊎◌, ℕ, ◌-◌, ◌^◌, Bool, true, false, IsTrue, [], ◌++◌, length, Option, Some, None, IsSome, MatchOption, bytes_eq, if◌then◌else◌}
+use Rattle.std.specs.Prelude.{◌≡◌, ◌⊎◌, ℕ, ◌-◌, ◌^◌, ◌≤◌, List, Bool, true, false, IsTrue, [], ◌++◌, length, Option, Some, None, IsSome, MatchOption, bytes_eq, if◌then◌else◌}
 use Rattle.std.specs.Option.{option_map_or}
 use Rattle.folder_base.specs.Disk.{Name, Bytes, File, Disk, Image, content, May}
 use Rattle.folder_base.specs.Story.{World, Through}
 use Rattle.folder_base.specs.declared.store_fault.StoreFault.{StoreFault}
 use Rattle.folder_base.specs.declared.store_fault.StoreFault.TheVariants.{OutOfMemory}
-use Rattle.keep_store.specs.Promise.{IsNameOf, promise_name}
+use Rattle.keep_store.specs.Promise.{IsNumber, number_of, IsNameOf, promising, promise_name}
 use Rattle.keep_store.specs.Publish.{Stays, MayRefuse}
 use Rattle.keep_store.specs.Safe.{Safe, Kept}
 
@@ -40,10 +40,24 @@ pub record Lies (stem name : Name) (bytes : Bytes) (disk : Disk) : Type 0 where
   pub named : IsNameOf stem name
   pub only : (other : Name) → IsNameOf stem other → bytes_eq name other ≡ false → disk.live other ≡ None
 
--- The lane's file has these bytes; where the lane holds no fault they are as many as it has, under its current name.
+-- The name promises at least the first `count` bytes, and a file of so many bytes has all that it promises.
+pub record PromisesPart (stem name : Name) (size count : ℕ) : Type 0 where
+  pub digits : List ℕ
+  pub number : IsNumber digits
+  pub is : name ≡ promising stem digits
+  pub least : count ≤ number_of digits
+  pub most : number_of digits ≤ size
+
+-- the same of each of the piece's names: its complete name promises all
+abbrev pub PromisesAtLeast : Name → Name → ℕ → ℕ → Type 0
+PromisesAtLeast stem name size count = ((name ≡ stem) × (count ≤ size)) ⊎ PromisesPart stem name size count
+
+-- The lane's file has these bytes, and promises as many as the lane does, or more; where the lane holds no fault it has as many
+-- bytes as the lane, under its current name.
 pub record Has (lane : Seen) (bytes : Bytes) : Type 0 where
   pub name : Name
   pub lies : Lies lane.stem name bytes lane.world.story.now
+  pub promises : PromisesAtLeast lane.stem name (length bytes) lane.promised
   pub current : lane.fault ≡ None → (name ≡ current_name lane) × (length bytes ≡ lane.size)
 
 -- The lane has these bytes since it was opened over `entry`, where nothing was pending; `whole` says that they may be all.
@@ -58,12 +72,17 @@ pub record Keeps (whole : Bool) (old new : Seen) (entry : Disk) (bytes : Bytes) 
   pub moments : Through old.world.story new.world.story (Kept old.stem entry bytes whole)
   pub since : Since whole new entry bytes
 
--- A fault is one of the folder that rose, and of a steady folder that tells it is want of memory alone.
+-- A fault is of a call of the folder that was refused, and of a steady folder that tells it is want of memory alone.
 pub record IsRefusal (old new : World) (fault : StoreFault) : Type 0 where
   pub rose : MayRefuse old new fault
   pub steady : IsTrue old.steady → IsTrue old.tells → fault ≡ OutOfMemory
 
--- From the one lane to the other, puts and checkpoints alone were made, and they put these bytes behind its file's end.
+-- No name but the piece's was touched.
+abbrev pub SameOthers : Name → World → World → Type 0
+SameOthers stem old new = (name : Name) → (IsNameOf stem name → ⊥) → new.story.now.live name ≡ old.story.now.live name
+
+-- From the one lane to the other, puts and checkpoints alone were made, and they put these bytes behind its file's end. What is
+-- promised does not get less.
 pub record Took (old : Seen) (bytes : Bytes) (new : Seen) : Type 0 where
   pub number : new.number ≡ old.number
   pub stem : new.stem ≡ old.stem
@@ -71,16 +90,20 @@ pub record Took (old : Seen) (bytes : Bytes) (new : Seen) : Type 0 where
   pub folder : Stays old.world new.world
   pub held : IsSome old.fault → (new ≡ old) × (bytes ≡ [])
   pub full : old.complete ≡ true → bytes ≡ []
+  pub later : old.promised ≤ new.promised
+  pub others : IsTrue new.world.tells → SameOthers old.stem old.world new.world
   pub cause : (fault : StoreFault) → new.fault ≡ Some fault → (old.fault ≡ Some fault) ⊎ IsRefusal old.world new.world fault
   pub has : IsTrue new.world.tells → (before : Bytes) → Has old before → Has new (before ++ bytes)
   pub keeps : IsTrue new.world.tells → (entry : Disk) (before : Bytes) → Since old.complete old entry before → Keeps old.complete old new entry (before ++ bytes)
 
--- The piece was finished, or refused to be.
+-- The piece was finished, or refused to be. What is promised does not get less.
 pub record Finishes (old new : Seen) : Type 0 where
   pub number : new.number ≡ old.number
   pub stem : new.stem ≡ old.stem
   pub folder : Stays old.world new.world
   pub held : IsSome old.fault → new ≡ old
+  pub later : old.promised ≤ new.promised
+  pub others : IsTrue new.world.tells → SameOthers old.stem old.world new.world
   pub cause : (fault : StoreFault) → new.fault ≡ Some fault → (old.fault ≡ Some fault) ⊎ IsRefusal old.world new.world fault
   pub has : IsTrue new.world.tells → (bytes : Bytes) → Has old bytes → Has new bytes
   pub moments : IsTrue new.world.tells → (entry : Disk) (bytes : Bytes) → Since old.complete old entry bytes → Through old.world.story new.world.story (Kept old.stem entry bytes true)

@@ -1,3 +1,4 @@
+pub mod Calls
 pub mod Lane
 pub mod Opening
 pub mod Opens

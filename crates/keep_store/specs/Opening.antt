@@ -64,6 +64,10 @@ pub record Removes (prefix current : Name) (names : List Name) (count : ℕ) (ol
   pub gone : (k : ℕ) (name : Name) → k < count → k < length names → slice_index_or names k name ≡ name → IsOther prefix current name → new.live name ≡ None
   pub only : (name : Name) → (new.live name ≡ old.live name) ⊎ ((new.live name ≡ None) × IsOther prefix current name)
 
+-- Names other than those are as they were.
+abbrev pub KeepsOthers : Name → Name → Disk → Disk → Type 0
+KeepsOthers prefix current old new = (name : Name) → (IsOther prefix current name → ⊥) → new.live name ≡ old.live name
+
 -- What a crash may leave was kept at each moment.
 abbrev pub Secures : Name → Story → Story → Type 0
 Secures current old new =

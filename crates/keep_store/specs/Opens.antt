@@ -7,12 +7,12 @@ use Rattle.folder_base.specs.declared.store_fault.StoreFault.TheVariants.{OutOfM
 use Rattle.keep_store.specs.Promise.{IsNameOf, IsPromise, PieceSound}
 use Rattle.keep_store.specs.Publish.{Stays}
 use Rattle.keep_store.specs.Safe.{reads, Kept}
-use Rattle.keep_store.specs.Lane.{Seen, Has, Since, IsRefusal}
+use Rattle.keep_store.specs.Lane.{Seen, Has, Since, IsRefusal, SameOthers}
 
 -- At each moment of the call what was promised of the piece is kept, and a piece that agreed with the world's bytes of its URL agrees.
 pub record KeepsPiece (stem : Name) (old new : Story) : Type 0 where
-  pub promise : (bytes : Bytes) → IsPromise stem (reads old.now) bytes → Through old new (Kept stem old.now bytes (is_some (old.now.live stem)))
-  pub sound : (all : Option Bytes) → PieceSound all stem (reads old.now) → Through old new (PieceSound all stem)
+  pub promise : Through old new (λ image. (bytes : Bytes) → IsPromise stem (reads old.now) bytes → Kept stem old.now bytes (is_some (old.now.live stem)) image)
+  pub sound : Through old new (λ image. (all : Option Bytes) → PieceSound all stem (reads old.now) → PieceSound all stem image)
 
 -- the same where nothing was pending
 abbrev pub KeepsPromise : Name → Story → Story → Type 0
@@ -37,8 +37,10 @@ pub record Opens (old : World) (number : ℕ) (stem : Name) (lane : Seen) : Type
   pub folder : Stays old lane.world
   pub told : IsTrue lane.world.tells → Resumes old.story lane
 
--- No lane was opened: for a fault of the folder that rose, or for want of memory, for which no count has to rise here.
+-- No lane was opened: for a call of the folder that was refused, or for want of memory, for which no count has to rise here. Files
+-- that are not the piece's are as they were.
 pub record NotOpened (stem : Name) (old new : World) (fault : StoreFault) : Type 0 where
   pub folder : Stays old new
+  pub others : IsTrue new.tells → SameOthers stem old new
   pub cause : (fault ≡ OutOfMemory) ⊎ IsRefusal old new fault
   pub moments : IsTrue new.tells → KeepsPromise stem old.story new.story

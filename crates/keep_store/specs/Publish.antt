@@ -1,11 +1,12 @@
--- What a crash leaves while a file is published.
-use Rattle.std.specs.Prelude.{◌≡◌, ◌⊎◌, ◌≤◌, IsTrue, Some, None}
+-- Why a call that works by a folder is refused, and what a crash leaves while a file is published.
+use Rattle.std.specs.Prelude.{◌≡◌, ◌⊎◌, ℕ, ◌≤◌, IsTrue, Some, None}
 use Rattle.text_base.specs.Causes.{Rose}
 use Rattle.text_base.specs.declared.faults.FolderFault.{FolderFault}
 use Rattle.text_base.specs.declared.faults.FolderFault.TheVariants.{Failed, OutOfMemory}
-use Rattle.folder_base.specs.Disk.{Name, File, Disk, Image, May, content, put, synced, renamed}
-use Rattle.folder_base.specs.Story.{World, Story, Through}
+use Rattle.folder_base.specs.Disk.{Name, Bytes, File, Disk, Image, May, content, put, created, appended, cut_to, synced, renamed, removed, settled}
+use Rattle.folder_base.specs.Story.{World, Story, Through, Next}
 use Rattle.text_base.specs.declared.faults.FolderCall.{FolderCall}
+use Rattle.text_base.specs.declared.faults.FolderCall.TheVariants.{Create, Append, Cut, Sync, Rename, Remove, Settle}
 use Rattle.folder_base.specs.declared.store_fault.StoreFault.{StoreFault}
 use Rattle.folder_base.specs.declared.store_fault.StoreFault.TheVariants.{Folder, OutOfMemory as NoMemory}
 
@@ -23,9 +24,37 @@ pub record Stays (old new : World) : Type 0 where
   pub part : new.part ≡ old.part
   pub out : new.out ≡ old.out
 
--- A fault of the folder comes only where its count of faults rose, and want of memory only where that of refusals did.
+-- The step is one that this call makes. The calls that read make none.
+abbrev pub IsStepOf : FolderCall → (Disk → Disk) → Type 0
+IsStepOf Create step = (name : Name) × (step ≡ created name)
+IsStepOf Append step = (name : Name) × (bytes : Bytes) × (step ≡ appended name bytes)
+IsStepOf Cut step = (name : Name) × (len : ℕ) × (step ≡ cut_to name len)
+IsStepOf Sync step = (name : Name) × (step ≡ synced name)
+IsStepOf Rename step = (from : Name) × (to : Name) × (step ≡ renamed from to)
+IsStepOf Remove step = (name : Name) × (step ≡ removed name)
+IsStepOf Settle step = step ≡ settled
+IsStepOf call step = ⊥
+
+-- Nothing was done, or a step of this call.
+abbrev pub DidAtMost : FolderCall → Story → Story → Type 0
+DidAtMost call old new = (new ≡ old) ⊎ ((step : Disk → Disk) × IsStepOf call step × Next step old new)
+
+-- This call failed: the count of faults rose, and it did nothing, or its own step.
+pub record Fails (call : FolderCall) (old new : World) : Type 0 where
+  pub rose : Rose old.faults new.faults
+  pub told : IsTrue new.tells → DidAtMost call old.story new.story
+
+-- Between these two moments this call failed.
+pub record FailedBetween (call : FolderCall) (old new : World) : Type 0 where
+  pub before : World
+  pub after : World
+  pub earlier : Stays old before
+  pub fails : Fails call before after
+  pub later : Stays after new
+
+-- A fault of the folder names a call that failed, and want of memory comes only where the count of refusals rose.
 abbrev pub MayRefuse : World → World → StoreFault → Type 0
-MayRefuse old new (Folder call) = Rose old.faults new.faults
+MayRefuse old new (Folder call) = FailedBetween call old new
 MayRefuse old new NoMemory = Rose old.refusals new.refusals
 
 -- an image of before, but with the whole file under its new name alone

@@ -1,16 +1,19 @@
--- Runs of puts: none, and two in turn.
+-- Runs of puts: none, two in turn, and what they may be refused for.
 use Rattle.std.proofs.Common.{◌≡◌, ◌⊎◌, inl, inr, ⊎_elim, Bool, true, IsTrue, [], ◌∷◌, ◌++◌, refl, sym, ◌∙◌, ap, subst, arith, append_assoc}
-use Rattle.std.specs.Prelude.{Option, Some, None, IsSome}
+use Rattle.std.specs.Prelude.{Option, Some, None, IsSome, MatchOption}
 use Rattle.std.proofs.lemmas.List.{append-nil}
 use Rattle.folder_base.specs.Disk.{Name, Bytes, Disk, Image}
 use Rattle.folder_base.specs.Story.{World, Through}
+use Rattle.folder_base.specs.Took.{RefusesOnlyMemory}
 use Rattle.folder_base.specs.declared.store_fault.StoreFault.{StoreFault}
 use Rattle.folder_base.specs.declared.store_fault.StoreFault.TheVariants.{Folder, OutOfMemory}
 use Rattle.folder_base.proofs.Moments.{begun, joined, weaker}
-use Rattle.keep_store.specs.Promise.{AreFirst}
-use Rattle.keep_store.specs.Publish.{Stays, MayRefuse}
+use Rattle.text_base.specs.Causes.{Rose}
+use Rattle.text_base.specs.declared.faults.FolderCall.{FolderCall}
+use Rattle.keep_store.specs.Promise.{AreFirst, IsNameOf}
+use Rattle.keep_store.specs.Publish.{Stays, FailedBetween, MayRefuse}
 use Rattle.keep_store.specs.Safe.{Kept}
-use Rattle.keep_store.specs.Lane.{Seen, Has, Since, Keeps, IsRefusal, Took}
+use Rattle.keep_store.specs.Lane.{Seen, Has, Since, Keeps, IsRefusal, Took, MayAnswer}
 
 pub stays_none : (world : World) → Stays world world
 stays_none world = record { tells = λ h. h; still_tells = λ h. h; steady = λ h. h; faults = omega arith; refusals = omega arith; part = refl; out = refl }
@@ -27,12 +30,14 @@ stays_both a b = record {
 }
 
 -- A fault of a later call, or of an earlier one.
-refuse_later : (first second third : World) (fault : StoreFault) → Stays first second → MayRefuse second third fault → MayRefuse first third fault
-refuse_later first second third (Folder call) stays rose = omega (arith, rose, stays.faults)
+pub refuse_later : (first second third : World) (fault : StoreFault) → Stays first second → MayRefuse second third fault → MayRefuse first third fault
+refuse_later first second third (Folder call) stays failed =
+    record { before = failed.before; after = failed.after; earlier = stays_both stays failed.earlier; fails = failed.fails; later = failed.later }
 refuse_later first second third OutOfMemory stays rose = omega (arith, rose, stays.refusals)
 
 refuse_sooner : (first second third : World) (fault : StoreFault) → Stays second third → MayRefuse first second fault → MayRefuse first third fault
-refuse_sooner first second third (Folder call) stays rose = omega (arith, rose, stays.faults)
+refuse_sooner first second third (Folder call) stays failed =
+    record { before = failed.before; after = failed.after; earlier = failed.earlier; fails = failed.fails; later = stays_both failed.later stays }
 refuse_sooner first second third OutOfMemory stays rose = omega (arith, rose, stays.refusals)
 
 pub refusal_later : {first second third : World} {fault : StoreFault} → Stays first second → IsRefusal second third fault → IsRefusal first third fault
@@ -40,6 +45,10 @@ refusal_later {first} {second} {third} {fault} stays is = record { rose = refuse
 
 pub refusal_sooner : {first second third : World} {fault : StoreFault} → Stays second third → IsRefusal first second fault → IsRefusal first third fault
 refusal_sooner {first} {second} {third} {fault} stays is = record { rose = refuse_sooner first second third fault stays is.rose; steady = is.steady }
+
+-- Where a call of the folder failed its count of faults rose.
+pub failed_rose : {call : FolderCall} {old new : World} → FailedBetween call old new → Rose old.faults new.faults
+failed_rose failed = omega (arith, failed.earlier.faults, failed.fails.rose, failed.later.faults)
 
 -- With more bytes behind them, what was kept is kept.
 pub kept_more : (stem : Name) (entry : Disk) (bytes more : Bytes) (whole : Bool) (image : Image) → (whole ≡ true → more ≡ []) → Kept stem entry bytes whole image → Kept stem entry (bytes ++ more) whole image
@@ -65,6 +74,8 @@ took_none lane = record {
   folder = stays_none lane.world;
   held = λ h. (refl, refl);
   full = λ h. refl;
+  later = omega arith;
+  others = λ t name not. refl;
   cause = λ fault is. inl is;
   has = λ t before has. subst (λ (b : Bytes). Has lane b) (sym (append-nil before)) has;
   keeps = λ t entry before since. subst (λ (b : Bytes). Keeps lane.complete lane lane entry b) (sym (append-nil before))
@@ -102,8 +113,19 @@ module _ (first second third : Seen) (front back : Bytes) (a : Took first front 
     folder = stays_both a.folder b.folder;
     held = held;
     full = λ is. (λ i. a.full is i ++ b.full (a.complete ∙ is) i);
+    later = omega (arith, a.later, b.later);
+    others = λ t name not. b.others t name (λ is. not (subst (λ (s : Name). IsNameOf s name) a.stem is)) ∙ a.others (b.folder.tells t) name not;
     cause = either;
     has = λ t before has. subst (λ (b : Bytes). Has third b) (append_assoc before front back) (b.has t (before ++ front) (a.has (b.folder.tells t) before has));
     keeps = after_both;
     complete = b.complete ∙ a.complete;
   }
+
+-- From a lane on that holds no fault over a steady folder that tells, whatever is put, a put is refused for want of memory alone.
+pub refuses_only_memory : {T : Type 0} (seen : T → Seen) (lane : T) → (seen lane).fault ≡ None → IsTrue (seen lane).world.steady → IsTrue (seen lane).world.tells
+    → RefusesOnlyMemory (λ old bytes new. Took (seen old) bytes (seen new)) (λ later piece fault. MayAnswer (seen later) fault) lane
+refuses_only_memory {T} seen lane none steady tells bytes later took piece fault may = by (seen later).fault refl may
+  where
+    by : (held : Option StoreFault) → (seen later).fault ≡ held → MatchOption held (IsTrue (seen later).world.steady → IsTrue (seen later).world.tells → fault ≡ OutOfMemory) (λ f. fault ≡ f) → fault ≡ OutOfMemory
+    by None is may = may (took.folder.steady steady) (took.folder.still_tells tells)
+    by (Some held) is may = may ∙ ⊎_elim (λ old. absurd (let x : Some held ≡ None = sym old ∙ none in cc)) (λ refusal. refusal.steady steady tells) (took.cause held is)

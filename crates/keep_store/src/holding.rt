@@ -1,8 +1,8 @@
 //! A lane's calls, with the fault that it answers from then on.
-ghost use Rattle.std.specs.Prelude.{◌≡◌, ◌+◌, ◌≤◌, [], length, true, false, Some, OnOk, OnErr, IfErr};
-ghost use Rattle.folder_base.specs.Took.{TookSome};
-ghost use Rattle.keep_store.specs.Lane.{Took, Finishes, spare_of};
-ghost use Rattle.keep_store.specs.State.{seen, IsLane, IsNear};
+ghost use Rattle.std.specs.Prelude.{◌≡◌, ◌≤◌, length, false};
+ghost use Rattle.keep_store.specs.Calls.{Takes, Checkpoints, EndsPiece};
+ghost use Rattle.keep_store.specs.Lane.{spare_of};
+ghost use Rattle.keep_store.specs.State.{seen, IsLane};
 
 use crate::lane_state::LaneState;
 use crate::taking::{promise_all, promise_whole, take_all};
@@ -17,15 +17,8 @@ pub(crate) fn take_or_hold<F: Folder>(
     requires lane { IsLane (F.world folder.old) state.old }
     requires spare { length bytes.now ≤ spare_of (seen (F.world folder.old) state.old) }
     ensures lane { IsLane (F.world folder.new) state.new }
-    ensures taken { OnOk result
-        (Took (seen (F.world folder.old) state.old) bytes.now (seen (F.world folder.new) state.new)) }
-    ensures part_taken { OnErr result
-        (TookSome Took (seen (F.world folder.old) state.old) bytes.now
-        (seen (F.world folder.new) state.new)) }
-    ensures held { IfErr result (λ fault. state.new.fault ≡ Some fault) }
-    ensures size { OnOk result (state.new.size ≡ state.old.size + length bytes.now) }
-    ensures part_size { OnErr result (state.new.size ≤ state.old.size + length bytes.now) }
-    ensures near { OnOk result (IsNear state.new.size state.new.promised) }
+    ensures takes { Takes (seen (F.world folder.old) state.old) bytes.now
+        (seen (F.world folder.new) state.new) result }
 {
     if let Some(fault) = state.fault {
         return Err(fault);
@@ -47,11 +40,8 @@ pub(crate) fn promise_or_hold<F: Folder>(
     requires lane { IsLane (F.world folder.old) state.old }
     requires part { state.old.complete ≡ false }
     ensures lane { IsLane (F.world folder.new) state.new }
-    ensures taken { Took (seen (F.world folder.old) state.old) []
-        (seen (F.world folder.new) state.new) }
-    ensures held { IfErr result (λ fault. state.new.fault ≡ Some fault) }
-    ensures size { state.new.size ≡ state.old.size }
-    ensures promised { OnOk result (state.new.promised ≡ state.new.size) }
+    ensures checkpoints { Checkpoints (seen (F.world folder.old) state.old)
+        (seen (F.world folder.new) state.new) result }
 {
     if let Some(fault) = state.fault {
         return Err(fault);
@@ -73,11 +63,8 @@ pub(crate) fn finish_or_hold<F: Folder>(
     requires lane { IsLane (F.world folder.old) state.old }
     requires part { state.old.complete ≡ false }
     ensures lane { IsLane (F.world folder.new) state.new }
-    ensures finished { Finishes (seen (F.world folder.old) state.old)
-        (seen (F.world folder.new) state.new) }
-    ensures held { IfErr result (λ fault. state.new.fault ≡ Some fault) }
-    ensures size { state.new.size ≡ state.old.size }
-    ensures complete { OnOk result (state.new.complete ≡ true) }
+    ensures ends { EndsPiece (seen (F.world folder.old) state.old)
+        (seen (F.world folder.new) state.new) result }
 {
     if let Some(fault) = state.fault {
         return Err(fault);

@@ -16,11 +16,10 @@ pub struct Lane<F: Folder> {
 }
 
 impl<F: Folder> Lane<F> {
-    ghost use Rattle.std.specs.Prelude.{◌≡◌, ◌+◌, ◌≤◌, [], length, true, false, Some, IsTrue, OnOk, OnErr, IfOk, IfErr};
-    ghost use Rattle.folder_base.specs.Took.{TookSome};
-    ghost use Rattle.keep_store.specs.Lane.{IsLaneFolder, Took, Finishes, spare_of};
+    ghost use Rattle.std.specs.Prelude.{◌≡◌, ◌≤◌, length, false, IsTrue, IfOk, IfErr};
+    ghost use Rattle.keep_store.specs.Calls.{Takes, Checkpoints, EndsPiece};
+    ghost use Rattle.keep_store.specs.Lane.{IsLaneFolder, spare_of};
     ghost use Rattle.keep_store.specs.Opens.{Opens, NotOpened};
-    ghost use Rattle.keep_store.specs.State.{IsNear};
     ghost use Rattle.keep_store.specs.Seen.{lane_seen};
 
     /// Opens a piece by its number and its stem, which is the folder's own where it is a part: goes on
@@ -47,7 +46,8 @@ impl<F: Folder> Lane<F> {
 
     /// How many bytes are promised.
     pub fn promised(&self) -> u64
-        ensures { result ≡ (lane_seen self.now).promised }
+        ensures value { result ≡ (lane_seen self.now).promised }
+        ensures within { result ≤ (lane_seen self.now).size }
     {
         self.state.promised
     }
@@ -60,19 +60,10 @@ impl<F: Folder> Lane<F> {
     }
 
     /// Puts bytes behind the file's end, and promises all at each multiple of 1,048,576. A lane that
-    /// was refused answers that fault from then on.
+    /// was refused answers that fault from then on, here and in its other calls.
     pub fn take(&mut self, bytes: &[u8]) -> Result<(), StoreFault>
         requires { length bytes.now ≤ spare_of (lane_seen self.old) }
-        ensures taken { OnOk result (Took (lane_seen self.old) bytes.now (lane_seen self.new)) }
-        ensures part_taken { OnErr result
-            (TookSome Took (lane_seen self.old) bytes.now (lane_seen self.new)) }
-        ensures held { IfErr result (λ fault. (lane_seen self.new).fault ≡ Some fault) }
-        ensures size { OnOk result
-            ((lane_seen self.new).size ≡ (lane_seen self.old).size + length bytes.now) }
-        ensures part_size { OnErr result
-            ((lane_seen self.new).size ≤ (lane_seen self.old).size + length bytes.now) }
-        ensures near { OnOk result
-            (IsNear (lane_seen self.new).size (lane_seen self.new).promised) }
+        ensures { Takes (lane_seen self.old) bytes.now (lane_seen self.new) result }
     {
         take_or_hold(&mut self.folder, &mut self.state, bytes)
     }
@@ -80,11 +71,7 @@ impl<F: Folder> Lane<F> {
     /// Promises all bytes so far.
     pub fn checkpoint(&mut self) -> Result<(), StoreFault>
         requires { (lane_seen self.old).complete ≡ false }
-        ensures taken { Took (lane_seen self.old) [] (lane_seen self.new) }
-        ensures held { IfErr result (λ fault. (lane_seen self.new).fault ≡ Some fault) }
-        ensures size { (lane_seen self.new).size ≡ (lane_seen self.old).size }
-        ensures promised { OnOk result
-            ((lane_seen self.new).promised ≡ (lane_seen self.new).size) }
+        ensures { Checkpoints (lane_seen self.old) (lane_seen self.new) result }
     {
         promise_or_hold(&mut self.folder, &mut self.state)
     }
@@ -92,10 +79,7 @@ impl<F: Folder> Lane<F> {
     /// Gives the piece its complete name: it has all its bytes.
     pub fn finish(&mut self) -> Result<(), StoreFault>
         requires { (lane_seen self.old).complete ≡ false }
-        ensures finished { Finishes (lane_seen self.old) (lane_seen self.new) }
-        ensures held { IfErr result (λ fault. (lane_seen self.new).fault ≡ Some fault) }
-        ensures size { (lane_seen self.new).size ≡ (lane_seen self.old).size }
-        ensures complete { OnOk result ((lane_seen self.new).complete ≡ true) }
+        ensures { EndsPiece (lane_seen self.old) (lane_seen self.new) result }
     {
         finish_or_hold(&mut self.folder, &mut self.state)
     }

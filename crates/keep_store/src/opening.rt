@@ -1,7 +1,7 @@
 //! How a lane's piece is found among its folder's names.
 ghost use Rattle.std.specs.Prelude.{◌≡◌, ◌<◌, ◌^◌, IsTrue, IfOk, IfErr, IfSome, OnOk, length};
 ghost use Rattle.keep_store.specs.Lane.{IsRefusal};
-ghost use Rattle.keep_store.specs.Opening.{Looked, OwnsPromises, standing_len, IsStanding, IsGreatest, larger, IsOther, Removes, Secures, MayRemove, AllStand};
+ghost use Rattle.keep_store.specs.Opening.{Looked, OwnsPromises, standing_len, IsStanding, IsGreatest, larger, IsOther, Removes, KeepsOthers, Secures, MayRemove, AllStand};
 ghost use Rattle.folder_base.specs.Disk.{removed};
 ghost use Rattle.folder_base.specs.Story.{stands, Next};
 ghost use Rattle.keep_store.specs.Publish.{Stays};
@@ -136,6 +136,8 @@ pub(crate) fn remove_others<F: Folder>(
         (F.world folder.old).story.now (F.world folder.new).story.now) }
     ensures secured { IsTrue (F.world folder.new).tells
         → Secures current.now (F.world folder.old).story (F.world folder.new).story }
+    ensures others { IsTrue (F.world folder.new).tells
+        → KeepsOthers prefix.now current.now (F.world folder.old).story.now (F.world folder.new).story.now }
 {
     for name in names {
         remove_other(folder, prefix, current, name.as_str())?;

@@ -3,7 +3,7 @@ ghost use Rattle.std.specs.Prelude.{◌≡◌, ◌⊎◌, ◌+◌, ◌<◌, ◌�
 ghost use Rattle.std.specs.String.{string_capacity};
 ghost use Rattle.folder_base.specs.Names.{Lists};
 ghost use Rattle.folder_base.specs.Story.{Next, is_own};
-ghost use Rattle.keep_store.specs.Lane.{IsLaneFolder, IsRefusal};
+ghost use Rattle.keep_store.specs.Lane.{IsLaneFolder, IsRefusal, SameOthers};
 ghost use Rattle.keep_store.specs.Opening.{CanBegin, begun_at, MayBegin, found_name, Finds};
 ghost use Rattle.keep_store.specs.Opens.{KeepsPromise, Opens, NotOpened};
 ghost use Rattle.keep_store.specs.Promise.{promise_prefix};
@@ -76,6 +76,8 @@ fn find_piece<F: Folder>(
         state.new.size (F.world folder.old).story (F.world folder.new).story) }
     ensures moments { IsTrue (F.world folder.new).tells
         → KeepsPromise state.old.stem (F.world folder.old).story (F.world folder.new).story }
+    ensures others { IsTrue (F.world folder.new).tells
+        → SameOthers state.old.stem (F.world folder.old) (F.world folder.new) }
 {
     match folder.size(state.stem.as_str()) {
         Ok(Some(size)) => {

@@ -1,5 +1,11 @@
-use Rattle.std.proofs.Common.{◌∙◌, ap}
+use Rattle.std.proofs.Common.{◌∙◌, refl, sym, ap, subst}
+use Rattle.text_base.specs.declared.faults.FolderCall.TheVariants.{Sync, Rename, Settle}
 use Rattle.folder_base.specs.Disk.{renamed}
+use Rattle.folder_base.specs.declared.store_fault.StoreFault.{StoreFault}
+use Rattle.keep_store.specs.Publish.{MayRefuse}
+use Rattle.keep_store.specs.TookLaws.{stays_both, refuse_later}
+use Rattle.keep_store.proofs.Appending.{stays_by}
+use Rattle.keep_store.proofs.Refusals.{may_refuse, did_whole}
 use Rattle.keep_store.proofs.Published.{after_sync, after_rename, after_settle}
 use Rattle.keep_store.proofs.publishing.publish.Goals as goal
 
@@ -29,3 +35,24 @@ returns-in-Err-settle-clause-any_moment g c t =
     let second = c.in-Ok-rename.ensures.told t2 in
     after_settle _ _ _ _ first.was_proper (second.done.now ∙ ap (renamed c.args.from.now c.args.to.now) first.done.now)
     (after_rename _ _ _ _ first.was_proper first.done.now (after_sync _ _ _ _ (c.sync.ensures.told t1)) (c.rename.ensures.told t2)) (c.settle.ensures.told t)
+
+pub returns-in-Err-clause-refused : goal.returns-in-Err-clause-refused
+returns-in-Err-clause-refused g c =
+    let old = g.F.Folder.world c.args.folder.now in
+    let new = g.F.Folder.world c.sync.new.self in
+    subst (λ (f : StoreFault). MayRefuse old new f) (sym c.store_fault.ensures)
+    (may_refuse old new Sync c.in-Err.fault c.sync.result c.in-Err.is c.sync.ensures.cause (did_whole Sync old new c.sync.result (c.args.from.now, refl) c.sync.ensures.told))
+
+pub returns-in-Err-rename-clause-refused : goal.returns-in-Err-rename-clause-refused
+returns-in-Err-rename-clause-refused g c =
+    let mid = g.F.Folder.world c.sync.new.self in
+    let new = g.F.Folder.world c.rename.new.self in
+    refuse_later _ _ _ _ (stays_by c.sync.ensures.cause) (subst (λ (f : StoreFault). MayRefuse mid new f) (sym c.store_fault-in-Err-rename.ensures)
+    (may_refuse mid new Rename c.in-Err-rename.fault c.rename.result c.in-Err-rename.is c.rename.ensures.cause (did_whole Rename mid new c.rename.result (c.args.from.now, c.args.to.now, refl) c.rename.ensures.told)))
+
+pub returns-in-Err-settle-clause-refused : goal.returns-in-Err-settle-clause-refused
+returns-in-Err-settle-clause-refused g c =
+    let mid = g.F.Folder.world c.rename.new.self in
+    let new = g.F.Folder.world c.settle.new.self in
+    refuse_later _ _ _ _ (stays_both (stays_by c.sync.ensures.cause) (stays_by c.rename.ensures.cause)) (subst (λ (f : StoreFault). MayRefuse mid new f) (sym c.store_fault-in-Err-settle.ensures)
+    (may_refuse mid new Settle c.in-Err-settle.fault c.settle.result c.in-Err-settle.is c.settle.ensures.cause (did_whole Settle mid new c.settle.result refl c.settle.ensures.told)))

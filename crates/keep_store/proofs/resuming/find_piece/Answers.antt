@@ -1,5 +1,5 @@
 use Rattle.std.proofs.Common.{◌∙◌, sym, ap, subst, inr}
-use Rattle.std.specs.Prelude.{OnOk, option_map, string_bytes, length, true}
+use Rattle.std.specs.Prelude.{OnOk, is_err, option_map, string_bytes, length, true}
 use Rattle.std.proofs.lemmas.Result.{on_ok_weaker}
 use Rattle.folder_base.specs.Disk.{Name, File, content}
 use Rattle.folder_base.specs.Story.{Story}
@@ -8,7 +8,9 @@ use Rattle.keep_store.specs.Opening.{OwnsPromises, Finds}
 use Rattle.keep_store.specs.TookLaws.{stays_both}
 use Rattle.keep_store.proofs.Naming.{own_after, owns_after}
 use Rattle.keep_store.proofs.Numerals.{name_is_promising}
-use Rattle.keep_store.proofs.Found.{stays_read, keeps_same, finds_whole, sought, may_begin, found_begun, keeps_found}
+use Rattle.text_base.specs.declared.faults.FolderCall.TheVariants.{Size}
+use Rattle.keep_store.proofs.Refusals.{read_failed}
+use Rattle.keep_store.proofs.Found.{stays_read, others_same, others_begun, keeps_same, finds_whole, sought, may_begin, found_begun, keeps_found}
 use Rattle.keep_store.proofs.resuming.find_piece.Goals as goal
 
 pub greatest_promise-requires : goal.greatest_promise-requires
@@ -74,3 +76,26 @@ returns-in_ok-promise-in-Ok-None-clause-found g c t =
     subst (λ (n : Name). OnOk c.begin_at.result (Finds stem n c.args.state.now.complete c.unwrap_or-len.result (g.F.Folder.world c.args.folder.now).story (g.F.Folder.world c.begin_at.new.folder).story)) c.as_str-in-Ok-None-2.ensures.value
     (on_ok_weaker c.begin_at.result (λ next. found_begun stem _ (g.F.Folder.world c.greatest_promise.new.folder).story c.args.names.now c.in_ok-promise-in-Ok-None.promise c.unwrap_or-len.result is c.as_str-in-Ok-None-2.result.now name_is
     (c.greatest_promise.ensures.looked.same t2 ∙ first) c.args.state.now.complete (g.F.Folder.world c.begin_at.new.folder).story c.requires.part next) (c.begin_at.ensures.done t))
+
+pub returns-in-Err-clause-refused : goal.returns-in-Err-clause-refused
+returns-in-Err-clause-refused g c =
+    read_failed (g.F.Folder.world c.args.folder.now) (g.F.Folder.world c.size.new.self) Size c.size.result (ap is_err c.in-Err.is) (stays_read c.size.ensures.cause) (λ t. tt) c.size.ensures.cause
+
+pub returns-in-Ok-Some-clause-others : goal.returns-in-Ok-Some-clause-others
+returns-in-Ok-Some-clause-others g c t = others_same c.args.state.now.stem (g.F.Folder.world c.args.folder.now) (g.F.Folder.world c.size.new.self) (c.size.ensures.cause.same.story t)
+
+pub returns-in-Err-clause-others : goal.returns-in-Err-clause-others
+returns-in-Err-clause-others g c t = others_same c.args.state.now.stem (g.F.Folder.world c.args.folder.now) (g.F.Folder.world c.size.new.self) (c.size.ensures.cause.same.story t)
+
+pub returns-in_err-promise-in-Ok-None-clause-others : goal.returns-in_err-promise-in-Ok-None-clause-others
+returns-in_err-promise-in-Ok-None-clause-others g c t =
+    others_same c.args.state.now.stem (g.F.Folder.world c.args.folder.now) (g.F.Folder.world c.greatest_promise.new.folder) (c.greatest_promise.ensures.looked.same t ∙ c.size.ensures.cause.same.story (c.greatest_promise.ensures.looked.stays.tells t))
+
+pub returns-in_ok-promise-in-Ok-None-clause-others : goal.returns-in_ok-promise-in-Ok-None-clause-others
+returns-in_ok-promise-in-Ok-None-clause-others g c t =
+    let stem = c.args.state.now.stem in
+    let name_is = c.as_str-in-Ok-None-2.ensures.value ∙ c.write_promise.ensures.bytes ∙ ap (λ (n : Name). promise_name n c.unwrap_or-len.result) c.as_str-in-Ok-None.ensures in
+    let t2 = c.begin_at.ensures.kept.tells t in
+    let same = c.greatest_promise.ensures.looked.same t2 ∙ c.size.ensures.cause.same.story (c.greatest_promise.ensures.looked.stays.tells t2) in
+    others_begun stem c.as_str-in-Ok-None-2.result.now c.in_ok-promise-in-Ok-None.promise (g.F.Folder.world c.args.folder.now) (g.F.Folder.world c.greatest_promise.new.folder) (g.F.Folder.world c.begin_at.new.folder)
+    (subst (λ (n : Name). IsNameOf stem n) (sym name_is) (inr (name_is_promising stem c.unwrap_or-len.result c.unwrap_or-len.type_inv))) same (c.begin_at.ensures.told t)

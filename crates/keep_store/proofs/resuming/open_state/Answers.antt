@@ -14,7 +14,7 @@ use Rattle.keep_store.specs.State.{seen}
 use Rattle.keep_store.specs.TookLaws.{stays_both, refusal_later}
 use Rattle.keep_store.specs.declared.lane_state.LaneState.{LaneState}
 use Rattle.keep_store.proofs.Naming.{owns_after, folder_after}
-use Rattle.keep_store.proofs.Resumed.{all_stand, keeps_secured, opens, is_lane, stays_asked, opens_asked, none_opened, names_refused, later_refused}
+use Rattle.keep_store.proofs.Resumed.{all_stand, keeps_secured, opens, is_lane, stays_asked, opens_asked, none_opened, names_refused, later_refused, others_removed}
 use Rattle.keep_store.proofs.resuming.open_state.Goals as goal
 
 pub returns-in_default-clause-refused : goal.returns-in_default-clause-refused
@@ -32,7 +32,7 @@ pub returns-in_err-find_piece-clause-refused : goal.returns-in_err-find_piece-cl
 returns-in_err-find_piece-clause-refused g c =
     let p = err_from_is_err_and c.from_residual.result c.from_residual.ensures.1 in
     rw (p.1, p.2) (later_refused c.args.stem.now c.in-Ok-new_state.state.stem (g.F.Folder.world c.args.folder.now) (g.F.Folder.world c.names.new.self) (g.F.Folder.world c.find_piece.new.folder) _
-    c.in-Ok-new_state.ensures.piece (stays_asked c.names.ensures.cause c.names.ensures.same) c.names.ensures.same.story c.find_piece.ensures.kept c.in_err-find_piece.ensures.refused c.find_piece.ensures.moments)
+    c.in-Ok-new_state.ensures.piece (stays_asked c.names.ensures.cause c.names.ensures.same) c.names.ensures.same.story c.find_piece.ensures.kept c.in_err-find_piece.ensures.refused c.find_piece.ensures.moments c.find_piece.ensures.others)
 
 pub remove_others-requires-clause-own : goal.remove_others-requires-clause-own
 remove_others-requires-clause-own g c =
@@ -55,7 +55,9 @@ returns-in_err-remove_others-clause-refused g c =
     (refusal_later c.find_piece.ensures.kept c.in_err-remove_others.ensures.refused)
     (λ t. let t2 = c.remove_others.ensures.kept.tells t in keeps_secured c.in-Ok-new_state.state.stem (string_bytes c.find_piece.new.state.current) c.find_piece.new.state.complete c.find_piece.new.state.size
     (g.F.Folder.world c.names.new.self).story (g.F.Folder.world c.find_piece.new.folder).story (g.F.Folder.world c.remove_others.new.folder).story (c.in_ok-find_piece.ensures.found t2)
-    (subst (λ (n : Name). Secures n (g.F.Folder.world c.find_piece.new.folder).story (g.F.Folder.world c.remove_others.new.folder).story) c.as_str-4.ensures.value (c.remove_others.ensures.secured t)) (c.find_piece.ensures.moments t2)))
+    (subst (λ (n : Name). Secures n (g.F.Folder.world c.find_piece.new.folder).story (g.F.Folder.world c.remove_others.new.folder).story) c.as_str-4.ensures.value (c.remove_others.ensures.secured t)) (c.find_piece.ensures.moments t2))
+    (λ t. others_removed c.in-Ok-new_state.state.stem c.as_str-3.result.now c.as_str-4.result.now (g.F.Folder.world c.names.new.self) (g.F.Folder.world c.find_piece.new.folder) (g.F.Folder.world c.remove_others.new.folder)
+    (c.as_str-3.ensures.value ∙ c.in-Ok.ensures ∙ ap (λ (n : Name). promise_prefix n) (sym c.in-Ok-new_state.ensures.piece)) (c.find_piece.ensures.others (c.remove_others.ensures.kept.tells t)) (c.remove_others.ensures.others t)))
 
 pub returns : goal.returns
 returns g c =

@@ -4,7 +4,9 @@ use Rattle.folder_base.specs.declared.store_fault.StoreFault.{StoreFault}
 use Rattle.folder_base.specs.Disk.{Bytes, appended}
 use Rattle.folder_base.specs.Story.{Next}
 use Rattle.keep_store.specs.Lane.{IsRefusal}
-use Rattle.keep_store.proofs.Appending.{stays_by, refusal_by}
+use Rattle.text_base.specs.declared.faults.FolderCall.TheVariants.{Append}
+use Rattle.keep_store.proofs.Appending.{stays_by}
+use Rattle.keep_store.proofs.Refusals.{refusal_by, did_append}
 use Rattle.keep_store.proofs.Appended.{own_current, is_standing, took_more, took_some, ready_more}
 use Rattle.keep_store.proofs.taking.put_front.Goals as goal
 
@@ -31,5 +33,6 @@ returns-in-Err-clause-part_taken g c =
     let standing = is_standing old c.args.state.now _ c.as_str.ensures.value c.requires.holds c.requires.is_ready c.requires.without_fault c.requires.part (omega (arith, c.requires.room)) in
     took_some old c.args.state.now _ c.as_str.ensures.value c.requires.holds c.requires.is_ready c.requires.without_fault c.requires.part (omega (arith, c.requires.room))
     (g.F.Folder.world c.append.new.self) c.store_fault.result
-    (subst (λ (f : StoreFault). IsRefusal old (g.F.Folder.world c.append.new.self) f) (sym c.store_fault.ensures) (refusal_by old (g.F.Folder.world c.append.new.self) _ c.in-Err.fault c.append.result c.in-Err.is standing c.append.ensures.cause))
+    (subst (λ (f : StoreFault). IsRefusal old (g.F.Folder.world c.append.new.self) f) (sym c.store_fault.ensures) (refusal_by old (g.F.Folder.world c.append.new.self) Append c.in-Err.fault c.append.result c.in-Err.is standing c.append.ensures.cause
+    (did_append old (g.F.Folder.world c.append.new.self) c.as_str.result.now c.args.front.now c.append.result c.append.ensures.told)))
     (stays_by c.append.ensures.cause) c.args.front.now c.append.result c.append.ensures.told
