@@ -1,4 +1,4 @@
-use Rattle.std.proofs.Common.{◌≡◌, ◌≤◌, ◌∙◌, take, drop, ◌+◌, ◌++◌, arith}
+use Rattle.std.proofs.Common.{◌≡◌, ◌≤◌, ◌∙◌, take, drop, ◌+◌, ◌++◌, arith, refl}
 use Rattle.std.specs.Prelude.{Err, true}
 use Rattle.std.proofs.lemmas.Result.{err_from_is_err_and}
 use Rattle.std.specs.String.{string_bytes}
@@ -21,8 +21,8 @@ loop-piece-preserved g c =
           (sends_more (script_of (take k pieces)) (all_to piece.which (string_bytes piece.bytes))
           (g.O.Sink.written c.args.out.now) (g.O.Sink.written c.loop-piece.out) (g.O.Sink.written c.put.new.out)
           (g.E.Sink.written c.args.err.now) (g.E.Sink.written c.loop-piece.err) (g.E.Sink.written c.put.new.err) i.sends h.whole);
-      kept_out = h.out.kept tt ∙ i.kept_out;
-      kept_err = h.err.kept tt ∙ i.kept_err;
+      kept_out = h.out.kept refl ∙ i.kept_out;
+      kept_err = h.err.kept refl ∙ i.kept_err;
       later_memory = omega (arith, i.later_memory, h.later);
       stays_out = λ s. h.stays_out (i.stays_out s);
       stays_err = λ s. h.stays_err (i.stays_err s);
