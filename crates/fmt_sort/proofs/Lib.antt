@@ -3,4 +3,3 @@ pub mod OrderLemmas
 pub mod RankedLemmas
 pub mod ReadingLemmas
 pub mod RowLemmas
-pub mod SpaceLemmas

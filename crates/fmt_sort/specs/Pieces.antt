@@ -1,11 +1,13 @@
 -- A piece of a sort word: `[+]field[(:|~)limit]`, with spaces around it.
-use Rattle.std.specs.Prelude.{ℕ, List, [], ◌∷◌, take, drop, Bool, ◌||◌, ◌==◌, if◌then◌else◌, slice_index}
+use Rattle.std.specs.Prelude.{ℕ, List, take, drop, Bool, ◌||◌, ◌==◌, if◌then◌else◌, slice_index}
 use Rattle.std.specs.List.{position_or_len}
-use Rattle.text_base.specs.Spaces.{without_last_spaces}
+use Rattle.text_base.specs.Spaces.{trimmed}
 
+-- the mark between pieces
 abbrev pub is_comma : ℕ → Bool
 is_comma b = b == 44
 
+-- the mark between limits
 abbrev pub is_colon : ℕ → Bool
 is_colon b = b == 58
 
@@ -17,21 +19,13 @@ is_mark b = b == 58 || b == 126
 abbrev pub cut : (ℕ → Bool) → List ℕ → ℕ
 cut p bs = position_or_len p bs
 
--- what stands before that byte, and what stands behind it
+-- what stands before that byte
 abbrev pub before : (ℕ → Bool) → List ℕ → List ℕ
 before p bs = take (cut p bs) bs
 
+-- what stands behind that byte
 abbrev pub behind : (ℕ → Bool) → List ℕ → List ℕ
 behind p bs = drop 1 (drop (cut p bs) bs)
-
--- a text without the spaces at its front
-abbrev pub without_first_spaces : List ℕ → List ℕ
-without_first_spaces [] = []
-without_first_spaces (b ∷ bs) = if b == 32 then without_first_spaces bs else b ∷ bs
-
--- a text without the spaces around it
-abbrev pub trimmed : List ℕ → List ℕ
-trimmed bs = without_last_spaces (without_first_spaces bs)
 
 -- the parts of a piece: whether `+` stands, the name, whether `~` stands, and the limit, which is empty where there is none
 pub record Parts : Type 0 where
@@ -40,6 +34,7 @@ pub record Parts : Type 0 where
   pub nearest : Bool
   pub limit : List ℕ
 
+-- the parts of a piece without spaces and without its `+`
 abbrev pub parts_of : Bool → List ℕ → Parts
 parts_of reversed field = record {
   reversed = reversed;

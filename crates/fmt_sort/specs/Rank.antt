@@ -54,5 +54,6 @@ middle_cmp (number a) (text t) = Less
 middle_cmp (text s) (number b) = Greater
 middle_cmp (text s) (text t) = slice_cmp nat_cmp s t
 
+-- how two ranks compare
 abbrev pub rank_cmp : Rank → Rank → Ordering
 rank_cmp a b = ordering_then (int_cmp a.group b.group) (ordering_then (middle_cmp a.middle b.middle) (int_cmp a.last b.last))

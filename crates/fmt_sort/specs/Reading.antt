@@ -31,10 +31,11 @@ limit_of free FormatId text = None
 limit_of free (Listed row) text = Some (at_points (limit_points row free text))
 limit_of free kind text = option_map (λ n. at_number n) (size_of 1024 text)
 
--- a field without a limit, and with one
+-- a field without a limit
 abbrev pub unlimited : Bool → SortKey → Wanted
 unlimited reversed key = record { key = key; reversed = reversed; nearest = false; limit = None }
 
+-- a field with a limit
 abbrev pub limited : Bool → Bool → SortKey → Bound → Wanted
 limited reversed nearest key limit = record { key = key; reversed = reversed; nearest = nearest; limit = Some limit }
 
@@ -66,6 +67,7 @@ abbrev pub fields_or_fault : Bool → ℕ → Parts → Option Target → Result
 fields_or_fault free k p None = Err (Field k)
 fields_or_fault free k p (Some target) = ok_or (fields_by free p target) (Limit k)
 
+-- the fields of piece k as it is written, or its fault
 abbrev pub piece_fields : Bool → ℕ → List ℕ → Result (List Wanted) SortFault
 piece_fields free k piece = fields_or_fault free k (parts piece) (target_of (parts piece).name)
 
@@ -96,10 +98,11 @@ words_fields free k [] = Ok []
 words_fields free k (word ∷ words) =
     behind_others (pieces_fields free k (pieces_of word)) (words_fields free (k + length (pieces_of word)) words)
 
--- a field put among others: it goes last where none of its name stands yet
+-- whether a field of this name stands among others
 abbrev pub is_there : Wanted → List Wanted → Bool
 is_there f fields = list_any (λ g. bytes_eq (name_of g.key) (name_of f.key)) fields
 
+-- a field put among others: it goes last where none of its name stands yet
 abbrev pub put : List Wanted → Wanted → List Wanted
 put fields f = if is_there f fields then fields else fields ++ f ∷ []
 
@@ -108,10 +111,11 @@ abbrev pub standing : SortKey → Wanted
 standing DynamicRange = limited false false DynamicRange (at_points (limit_points Ranges false (codes "12")))
 standing key = unlimited false key
 
--- the fields that stand first, and those that stand last
+-- the fields that stand first
 abbrev pub first_fields : List Wanted
 first_fields = map standing (HasVideo ∷ Preference ∷ [])
 
+-- the fields that stand last
 abbrev pub last_fields : List Wanted
 last_fields = map standing (
     Language ∷ Quality ∷ Resolution ∷ Fps ∷ DynamicRange ∷ VideoCodec ∷ Channels ∷ AudioCodec ∷ Size ∷ Bitrate ∷ Asr ∷ Protocol
@@ -122,6 +126,7 @@ abbrev pub in_order : Bool → List Wanted → List Wanted
 in_order force given =
     fold put [] (if force then given ++ (first_fields ++ last_fields) else first_fields ++ (given ++ last_fields))
 
+-- the sort specification that fields give
 abbrev pub wish_by : Bool → Bool → Result (List Wanted) SortFault → Result Wish SortFault
 wish_by force free (Err e) = Err e
 wish_by force free (Ok given) = Ok (record { free = free; fields = in_order force given })

@@ -9,10 +9,11 @@ use Rattle.fmt_sort.specs.declared.row.Row.TheVariants.{Protocols, VideoCodecs, 
 abbrev pub Place : Type 0
 Place = List (List ℕ)
 
--- a place for one text, and for two
+-- a place for one text
 abbrev pub one : List ℕ → Place
 one a = a ∷ []
 
+-- a place for two texts
 abbrev pub two : List ℕ → List ℕ → Place
 two a b = a ∷ b ∷ []
 
@@ -49,10 +50,11 @@ abbrev pub first_points : (List ℕ → Bool) → List (List ℕ × ℕ) → ℕ
 first_points fits [] = 1
 first_points fits (p ∷ ps) = if fits p.0 then p.1 else first_points fits ps
 
--- whether a text, in ASCII lower case, begins with a name of the row, or is that name
+-- whether a text, in ASCII lower case, begins with a name of the row
 abbrev pub begins : List ℕ → List ℕ → Bool
 begins text name = starts_with nat_eq (str_to_ascii_lowercase text) name
 
+-- whether a text, in ASCII lower case, is a name of the row
 abbrev pub is_named : List ℕ → List ℕ → Bool
 is_named text name = bytes_eq (str_to_ascii_lowercase text) name
 

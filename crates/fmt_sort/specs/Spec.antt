@@ -25,13 +25,15 @@ pub record Wish : Type 0 where
   pub free : Bool
   pub fields : List Wanted
 
--- what values of the program stand for
+-- the limit that a value of the program stands for
 abbrev pub bound_of : Limit → Bound
 bound_of (NumberLimit n) = at_number (number_of n)
 bound_of (PointsLimit p) = at_points p
 
+-- the field that a value of the program stands for
 abbrev pub wanted_of : SortField → Wanted
 wanted_of f = record { key = f.key; reversed = f.is_reversed; nearest = f.is_nearest; limit = option_map bound_of f.limit }
 
+-- the sort specification that a value of the program stands for
 abbrev pub wish_of : SortSpec → Wish
 wish_of s = record { free = s.free; fields = map wanted_of s.fields.items }

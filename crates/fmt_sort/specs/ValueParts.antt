@@ -25,5 +25,6 @@ abbrev pub plain_middle : Middle → rank.Middle
 plain_middle (middle.Number n) = rank.number n
 plain_middle (middle.Text t) = rank.text t.now
 
+-- a rank with the middle that it is
 abbrev pub plain_rank : Rank → rank.Rank
 plain_rank r = record { group = r.group; middle = plain_middle r.middle; last = r.last }

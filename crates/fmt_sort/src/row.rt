@@ -194,8 +194,9 @@ impl Row {
         !matches!(self, Row::VideoCodecs | Row::AudioCodecs)
     }
 
-    /// The points of a format's text.
-    pub(crate) fn points(self, free: bool, text: &str) -> u8
+    /// The points of a format's text: the place of the first name that it fits, counted from the
+    /// row's end, the last being 1. Codecs fit by their beginning. `free` prefers free formats.
+    pub fn points(self, free: bool, text: &str) -> u8
         ensures { result ≡ spec.points_of self free text.now }
     {
         self.first_points(free, text.as_bytes(), self.is_whole())
