@@ -1,0 +1,5 @@
+mod ClaimedLemmas
+pub mod Laws
+mod LogLemmas
+mod StepLemmas
+mod SumLemmas

@@ -1,0 +1,4 @@
+pub mod Claimed
+pub mod Closing
+pub mod FitsCrew
+pub mod Rule
