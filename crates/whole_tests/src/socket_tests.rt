@@ -3,7 +3,6 @@ ghost use Rattle.std.specs.Prelude.{◌≡◌, ◌<◌, ◌≤◌, false, length
 ghost use Rattle.folder_base.specs.Story.{IsWhole};
 ghost use Rattle.keep_store.specs.Seen.{lane_seen};
 
-
 use file_server::serve;
 use folder_base::{Folder, FolderMem};
 use keep_store::Lane;
