@@ -16,9 +16,11 @@ use Rattle.folder_base.specs.declared.side.Side.{Side}
 use Rattle.folder_base.specs.declared.side.Side.TheVariants.{Rest}
 use Rattle.folder_base.specs.declared.step.Step.{Step}
 
+-- what a content tells by its log, its side, its steps and its places
 abbrev pub content_tale : Content → Tale
 content_tale content = tale content.line.log.value content.line.side content.line.steps.items content.places.items
 
+-- The name is the content's to answer for.
 abbrev pub content_owns : Content → Name → Bool
 content_owns content = tale_owns (content_tale content)
 
@@ -58,5 +60,6 @@ pub record TellsSame (old new : Content) : Type 0 where
   pub plan : new.line.log.value.plan ≡ old.line.log.value.plan
   pub tale_is : content_tale new ≡ content_tale old
 
+-- The parts are out; where memory was refused, what is told is as it was.
 abbrev pub FansOut : List Name → Content → Content → Result (Vec Line Global) OutOfMemory → Type 0
 FansOut stems old new result = MatchResult result (λ lines. FannedOut stems old new lines.items) (λ _. TellsSame old new)

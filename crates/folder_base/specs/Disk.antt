@@ -1,9 +1,11 @@
 -- What a folder's files are, what a crash may leave of them, and what each call does to them.
 use Rattle.std.specs.Prelude.{◌≡◌, ◌⊎◌, ℕ, ◌-◌, Bool, true, false, ◌&&◌, List, [], ◌∷◌, ◌++◌, map, length, take, Option, Some, None, ⊤, option_map, option_and_then, unwrap_or, bytes_eq, nat_eq, nat_lt, if◌then◌else◌}
 
+-- a name, as its bytes
 abbrev pub Name : Type 0
 Name = List ℕ
 
+-- the bytes of a file
 abbrev pub Bytes : Type 0
 Bytes = List ℕ
 
@@ -25,6 +27,7 @@ pub data Spot : Type 0 where
   still : Name → Spot
   lost : File → Spot
 
+-- what each name stood for at an earlier moment; a name without a spot did not stand then
 abbrev pub Spots : Type 0
 Spots = Name → Option Spot
 
@@ -52,12 +55,14 @@ abbrev pub MayHold : Option Bytes → Bytes → Bytes → Type 0
 MayHold None sure bytes = bytes ≡ sure
 MayHold (Some more) sure bytes = take (length sure) bytes ≡ sure
 
+-- A crash may leave this of a name: no bytes where it does not stand, and where it does bytes that its file may hold.
 abbrev pub MayBe : Option File → Option Bytes → Type 0
 MayBe None None = ⊤
 MayBe None (Some bytes) = ⊥
 MayBe (Some file) None = ⊥
 MayBe (Some file) (Some bytes) = MayHold file.more file.sure bytes
 
+-- the file of a spot, by the names as they are now
 abbrev pub spot_file : Names → Spot → Option File
 spot_file live (still name) = live name
 spot_file live (lost file) = Some file
@@ -70,6 +75,7 @@ as_now live spots = λ name. option_and_then (spot_file live) (spots name)
 abbrev pub Leaves : Names → Image → Type 0
 Leaves names image = (name : Name) → MayBe (names name) (image name)
 
+-- A crash leaves the names of one of these earlier moments, with their files as they are now.
 abbrev pub LeavesAny : Names → List Spots → Image → Type 0
 LeavesAny live [] image = ⊥
 LeavesAny live (spots ∷ others) image = Leaves (as_now live spots) image ⊎ LeavesAny live others image
@@ -78,6 +84,7 @@ LeavesAny live (spots ∷ others) image = Leaves (as_now live spots) image ⊎ L
 abbrev pub Holds : Disk → Image → Type 0
 Holds disk image = Leaves disk.live image ⊎ LeavesAny disk.live disk.loose image
 
+-- the names before each of these changes
 abbrev pub earlier : List Older → List Spots
 earlier back = map (λ older. older.names) back
 
@@ -106,6 +113,7 @@ abbrev pub freed_spot : Names → Name → Spot → Option Spot
 freed_spot live name (still other) = if bytes_eq name other then option_map lost (live name) else Some (still other)
 freed_spot live name (lost file) = Some (lost file)
 
+-- each earlier name, told again once `name` stands for another file or for none
 abbrev pub freed : Names → Name → Spots → Spots
 freed live name spots = λ other. option_and_then (freed_spot live name) (spots other)
 
@@ -114,9 +122,11 @@ abbrev pub moved_spot : Name → Name → Spot → Spot
 moved_spot from to (still other) = if bytes_eq from other then still to else still other
 moved_spot from to (lost file) = lost file
 
+-- each earlier name, told again once the file of `from` has the name `to`
 abbrev pub moved : Name → Name → Spots → Spots
 moved from to spots = λ other. option_map (moved_spot from to) (spots other)
 
+-- each earlier name, told again once the file of `from` has the name `to` in place of the file that had it
 abbrev pub taken_over : Names → Name → Name → Spots → Spots
 taken_over live from to spots = moved from to (freed live to spots)
 
@@ -138,6 +148,7 @@ changed name change disk = record {
   mixed = disk.mixed;
 }
 
+-- a file without bytes
 abbrev pub empty_file : File
 empty_file = record { sure = []; more = None }
 
@@ -166,6 +177,7 @@ created name disk =
     named (name ∷ []) (put disk.live name (Some empty_file))
     (freed disk.live name) (λ spots. put (freed disk.live name spots) name (Some (still name))) disk
 
+-- with the name gone
 abbrev pub removed : Name → Disk → Disk
 removed name disk =
     named (name ∷ []) (put disk.live name None)
@@ -175,6 +187,7 @@ removed name disk =
 abbrev pub renamed_names : Name → Name → Names → Names
 renamed_names from to live = put (put live from None) to (live from)
 
+-- the file of `from` under the name `to`, which is another name
 abbrev pub renamed_apart : Name → Name → Disk → Disk
 renamed_apart from to disk =
     named (to ∷ from ∷ []) (renamed_names from to disk.live) (taken_over disk.live from to)
@@ -184,15 +197,19 @@ renamed_apart from to disk =
 abbrev pub renamed : Name → Name → Disk → Disk
 renamed from to disk = if bytes_eq from to then disk else renamed_apart from to disk
 
+-- with bytes put behind the end of a file
 abbrev pub appended : Name → Bytes → Disk → Disk
 appended name bytes = changed name (longer bytes)
 
+-- with the first `len` bytes of a file alone, where it has more
 abbrev pub cut_to : Name → ℕ → Disk → Disk
 cut_to name len = changed name (shorter len)
 
+-- with all bytes of a file lasting
 abbrev pub synced : Name → Disk → Disk
 synced name = changed name firm
 
+-- with every name change lasting
 abbrev pub settled : Disk → Disk
 settled disk = record { live = disk.live; back = []; loose = []; mixed = [] }
 

@@ -6,6 +6,7 @@ use Rattle.folder_base.specs.Disk.{Name, File, Names, put}
 use Rattle.folder_base.specs.Stored.{file_of}
 use Rattle.folder_base.specs.declared.stored.Stored.{Stored}
 
+-- the names of the files that a map holds
 abbrev pub names_of : BTreeMap (String Global) Stored → Names
 names_of files = λ name. option_map file_of (get_by_text files name)
 
@@ -18,6 +19,7 @@ abbrev pub or_else : Option File → Option File → Option File
 or_else None other = other
 or_else (Some file) other = Some file
 
+-- at each name what stands in the first, and else what stands in the second
 abbrev pub over : Names → Names → Names
 over names others = λ name. or_else (names name) (others name)
 
@@ -26,5 +28,6 @@ abbrev pub if_none : Option File → Option File → Option File
 if_none None other = other
 if_none (Some file) other = None
 
+-- the names of the second that do not stand in the first
 abbrev pub without : Names → Names → Names
 without names others = λ name. if_none (names name) (others name)

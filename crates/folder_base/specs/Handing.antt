@@ -24,6 +24,7 @@ pub record IsOwnChange (mine : Name → Bool) (live : Names) (change own : Chang
   pub name : own.name ≡ change.name
   pub sets : (spots : Spots) → own_spots mine live (set_spot change spots) ≡ set_spot own (own_spots mine live spots)
 
+-- These changes set the same names, and set them as they stand among the names that are `mine`.
 pub record AreOwnChanges (mine : Name → Bool) (live : Names) (changes own : List Change) : Type 0 where
   pub names : map (λ change. change.name) own ≡ map (λ change. change.name) changes
   pub sets : (spots : Spots) → own_spots mine live (set_spots changes spots) ≡ set_spots own (own_spots mine live spots)

@@ -7,6 +7,7 @@ use Rattle.std.specs.declared.alloc.Global.{Global}
 use Rattle.folder_base.specs.Disk.{Name}
 use Rattle.folder_base.specs.Parts.{is_part, is_in_some}
 
+-- where the stem stands, by the index
 abbrev pub place_of : BTreeMap (Vec ℕ Global) ℕ → Name → Option ℕ
 place_of index stem = get_by (λ key. slice_cmp nat_cmp stem key.items) index
 

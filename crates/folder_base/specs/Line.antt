@@ -14,12 +14,15 @@ use Rattle.folder_base.specs.declared.line.Line.{Line}
 use Rattle.folder_base.specs.declared.log.Log.{Log}
 use Rattle.folder_base.specs.declared.side.Side.TheVariants.{Rest}
 
+-- the story of a line: what was told as it began, and then its steps
 abbrev pub line_story : Line → Story
 line_story line = told (start line.log.value line.side) line.steps.items
 
+-- The name is the line's to answer for.
 abbrev pub line_owns : Line → Name → Bool
 line_owns line = owns line.log.value line.side
 
+-- the part that a line has the steps of, if it is one
 abbrev pub line_part : Line → Option Part
 line_part line = part_at line.log.value line.side
 
@@ -33,6 +36,7 @@ pub record LineSteps (is_proper : Names → Bool) (step : Disk → Disk) (old ne
 abbrev pub line_tale : Line → Tale
 line_tale line = tale line.log.value line.side line.steps.items []
 
+-- the names of each line's files
 abbrev pub line_names : List Line → List Names
 line_names lines = map (λ line. names_of line.files) lines
 
@@ -52,11 +56,13 @@ pub record HandedOut (stems : List Name) (old new : Line) (lines : List Line) : 
   pub stems_are : new.log.value.stems.items ≡ stems
   pub lines_are : AreLines new.log.value stems lines
 
+-- The line tells the same, though its steps may stand in its log by now.
 pub record StaysWhole (old new : Line) : Type 0 where
   pub side : new.side ≡ old.side
   pub plan : new.log.value.plan ≡ old.log.value.plan
   pub chapter : chapter_of new.log.value ≡ chapter_of old.log.value
   pub story : line_story new ≡ line_story old
 
+-- The names were handed out to parts; where memory was refused, the line tells what it told.
 abbrev pub HandsOut : List Name → Line → Line → Result (Vec Line Global) OutOfMemory → Type 0
 HandsOut stems old new result = MatchResult result (λ lines. HandedOut stems old new lines.items) (λ _. StaysWhole old new)

@@ -18,6 +18,7 @@ start log All = log_story log
 start log (PartSide stem) = newborn (inside stem (log_story log).now)
 start log Rest = left log.stems.items (log_story log)
 
+-- The name belongs to this side: all names, a part's own, or those of no part that is out.
 abbrev pub owns : Log → Side → Name → Bool
 owns log All name = true
 owns log (PartSide stem) name = is_part stem name

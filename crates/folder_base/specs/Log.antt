@@ -18,6 +18,7 @@ stood live (file ∷ files) = stood (put live file.name (Some (lasting_file file
 abbrev pub lasting : Names → Disk
 lasting live = record { live = live; back = []; loose = []; mixed = [] }
 
+-- what a step does to a disk
 abbrev pub does : Step → Disk → Disk
 does (Created name) = created name
 does (Appended name bytes) = appended name bytes.items
@@ -31,10 +32,12 @@ does Settled = settled
 abbrev pub after : Step → Story → Story
 after step story = record { now = does step story.now; past = whole story.now ∷ story.past }
 
+-- a story with these steps behind it
 abbrev pub told : Story → List Step → Story
 told story [] = story
 told story (step ∷ steps) = told (after step story) steps
 
+-- the story of a folder that begins with these files
 abbrev pub begun : List FileMem → Story
 begun files = record { now = lasting (stood (λ _. None) files); past = [] }
 
@@ -68,10 +71,12 @@ rejoined before stems rest parts = record {
   since = length (left stems before).past;
 }
 
+-- a chapter with one round more: its steps, and then the time with its parts out
 abbrev pub after_round : Chapter → Round → Chapter
 after_round chapter round =
     rejoined (told chapter.story round.before.items) round.stems.items round.rest.items (map (λ steps. steps.items) round.parts.items)
 
+-- a chapter with these rounds more, one after another
 abbrev pub chapter_after : Chapter → List Round → Chapter
 chapter_after chapter [] = chapter
 chapter_after chapter (round ∷ rounds) = chapter_after (after_round chapter round) rounds

@@ -13,6 +13,7 @@ pub record TakesOver (stems : List Name) (old : Log) (steps : List Step) (new : 
   pub moved : steps' ≡ []
   pub stems_are : new.stems.items ≡ stems
 
+-- The log takes the steps over; where memory was refused, nothing but the room for them has changed.
 abbrev pub IsSealed : {E : Type 0} → List Name → Log → List Step → Log → List Step → Result (Unit {0}) E → Type 0
 IsSealed stems old steps new steps' result = MatchResult result (λ _. TakesOver stems old steps new steps') (λ _. (new ≡ record old { steps = new.steps }) × (new.steps.items ≡ old.steps.items) × (steps' ≡ steps))
 

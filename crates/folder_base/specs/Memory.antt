@@ -33,6 +33,7 @@ whole_world steady faults refusals story = record {
 abbrev pub fresh : Bool → Names → World
 fresh steady live = whole_world steady 0 0 (record { now = lasting live; past = [] })
 
+-- It plans no fault and no stop.
 abbrev pub is_steady : FolderMem → Bool
 is_steady folder = plans_nothing folder.content.line.log.value.plan
 
@@ -49,6 +50,7 @@ world_with steady faults refusals tale = record {
   story = tale.story;
 }
 
+-- what a folder in memory tells, and its counts
 abbrev pub world_of : FolderMem → World
 world_of folder = world_with (is_steady folder) folder.faults folder.refusals (content_tale folder.content)
 
@@ -122,8 +124,10 @@ pub record Numbers : Type 0 where
   pub first : ℕ
   pub plan : Plan
 
+-- how a folder is numbered, and its plan
 abbrev pub numbers_of : FolderMem → Numbers
 numbers_of folder = record { number = folder.calls; first = folder.first; plan = folder.content.line.log.value.plan }
 
+-- those of a part with this line, as it is handed out with this number
 abbrev pub line_numbers : ℕ → Line → Numbers
 line_numbers first line = record { number = first; first = first; plan = line.log.value.plan }

@@ -18,18 +18,23 @@ use Rattle.folder_base.specs.declared.side.Side.TheVariants.{All, Rest}
 use Rattle.folder_base.specs.declared.step.Step.{Step}
 use Rattle.folder_base.specs.declared.stored.Stored.{Stored}
 
+-- the files that are held, by their names
 abbrev pub Files : Type 0
 Files = BTreeMap (String Global) Stored
 
+-- the places of parts that are back
 abbrev pub Places : Type 0
 Places = Vec Place Global
 
+-- Where parts are out the index has the place of each of their stems, and no other.
 abbrev pub IsIndexed : Log → Side → BTreeMap (Vec ℕ Global) ℕ → Type 0
 IsIndexed log side index = side ≡ Rest → IsIndex log.stems.items index
 
+-- Where parts are out there is room for a place for each of them.
 abbrev pub HasRoom : Log → Side → Places → Type 0
 HasRoom log side places = side ≡ Rest → length log.stems.items ≤ vec_capacity places
 
+-- The places are those of the first parts that were handed out.
 abbrev pub HasPlaces : Log → Places → Type 0
 HasPlaces log places = ArePlaced (all_handed log) places.items
 
@@ -54,6 +59,7 @@ pub record IsApart (old : Log) (steps : List Step) (places : Places) (files : Fi
   pub places_are : places' ≡ places
   pub files_are : names_of files' ≡ names_of files
 
+-- All became one; where memory was refused, it is apart as it was.
 abbrev pub Merges : Log → List Step → Places → Files → Log → List Step → Places → Files → Result (Unit {0}) OutOfMemory → Type 0
 Merges old steps places files new steps' places' files' result =
     MatchResult result (λ _. IsOne old steps places new steps' places' files') (λ _. IsApart old steps places files new steps' places' files')

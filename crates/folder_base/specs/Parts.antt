@@ -7,6 +7,7 @@ use Rattle.folder_base.specs.Disk.{Name, Names, Spot, still, lost, Spots, Older,
 abbrev pub is_part : Name → Name → Bool
 is_part stem name = bytes_eq stem name || begins (stem ++ 46 ∷ []) name
 
+-- The name belongs to one of the parts with these stems.
 abbrev pub is_in_some : List Name → Name → Bool
 is_in_some [] name = false
 is_in_some (stem ∷ stems) name = is_part stem name || is_in_some stems name
@@ -16,6 +17,7 @@ abbrev pub AreApart : List Name → Type 0
 AreApart [] = ⊤
 AreApart (stem ∷ stems) = All (λ other. (is_part stem other ≡ false) × (is_part other stem ≡ false)) stems × AreApart stems
 
+-- It has one proof at most that stems are apart.
 pub AreApart-prop : (stems : List Name) → IsProp (AreApart stems)
 AreApart-prop [] = Unit-prop
 AreApart-prop (stem ∷ stems) = ×_prop (Π_prop (λ k. Π_prop (λ d. →_prop (×_prop (Coded-set coded_bool _ _) (Coded-set coded_bool _ _))))) (AreApart-prop stems)
@@ -25,9 +27,11 @@ abbrev pub own_spot : (Name → Bool) → Names → Spot → Option Spot
 own_spot mine live (still name) = if mine name then Some (still name) else option_map lost (live name)
 own_spot mine live (lost file) = Some (lost file)
 
+-- earlier names as those that are `mine` tell of them: the other names did not stand
 abbrev pub own_spots : (Name → Bool) → Names → Spots → Spots
 own_spots mine live spots = λ name. if mine name then option_and_then (own_spot mine live) (spots name) else None
 
+-- One of these names is `mine`.
 abbrev pub touches : (Name → Bool) → List Name → Bool
 touches mine [] = false
 touches mine (name ∷ names) = mine name || touches mine names
@@ -49,9 +53,11 @@ within mine disk = record {
   mixed = map (own_spots mine disk.live) disk.mixed;
 }
 
+-- the part with this stem alone
 abbrev pub inside : Name → Disk → Disk
 inside stem = within (is_part stem)
 
+-- the names of none of the parts with these stems
 abbrev pub outside : List Name → Disk → Disk
 outside stems = within (λ name. not (is_in_some stems name))
 
@@ -59,10 +65,12 @@ outside stems = within (λ name. not (is_in_some stems name))
 abbrev pub join : {V : Type 0} → (Name → Bool) → (Name → Option V) → (Name → Option V) → Name → Option V
 join mine a b = λ name. if mine name then a name else b name
 
+-- one map for the names that are `mine`, with each of these for the others
 abbrev pub join_each : (Name → Bool) → Spots → List Spots → List Spots
 join_each mine a [] = []
 join_each mine a (b ∷ bs) = join mine a b ∷ join_each mine a bs
 
+-- each of the first for the names that are `mine`, with each of the second for the others
 abbrev pub join_all : (Name → Bool) → List Spots → List Spots → List Spots
 join_all mine [] bs = []
 join_all mine (a ∷ others) bs = join_each mine a bs ++ join_all mine others bs
@@ -79,19 +87,24 @@ oldest spots (older ∷ back) = oldest older.names back
 -- A part and the rest, each as it is or as it was before some unsettled change of its own. In call order the part's changes
 -- stand behind those of the rest.
 module _ (mine : Name → Bool) (part rest : Disk) where
+  -- earlier names as the part alone tells of them
   abbrev pub of_part : Spots → Spots
   of_part = own_spots mine part.live
 
+  -- earlier names as the rest alone tells of them
   abbrev pub of_rest : Spots → Spots
   of_rest = own_spots (λ name. not (mine name)) rest.live
 
+  -- a change of the part, before which all changes of the rest hold
   abbrev pub behind_rest : Older → Older
   behind_rest older = record { touched = older.touched; names = join mine (of_part older.names) (of_rest (mark rest.live)) }
 
+  -- a change of the rest, before which none of the part's changes holds
   abbrev pub before_part : Older → Older
   before_part older =
       record { touched = older.touched; names = join mine (of_part (oldest (mark part.live) part.back)) (of_rest older.names) }
 
+  -- the disk of the part and the rest together
   abbrev pub joined : Disk
   joined = record {
     live = join mine part.live rest.live;

@@ -21,15 +21,18 @@ ArePlaced parts [] = ⊤
 ArePlaced [] (place ∷ places) = ⊥
 ArePlaced (part ∷ parts) (place ∷ places) = IsPlaced part place × ArePlaced parts places
 
+-- files as pairs of their bytes, so that two of them can be compared
 coded_file : Coded File
 coded_file = code_by (Bytes × Option Bytes) (coded× (coded_list coded_ℕ) (coded_option (coded_list coded_ℕ))) (λ file. (file.sure, file.more)) (λ p. record { sure = p.0; more = p.1 }) (λ file. refl)
 
+-- It has one proof at most that places are those of parts.
 pub ArePlaced-prop : (parts : List Part) (places : List Place) → IsProp (ArePlaced parts places)
 ArePlaced-prop parts [] = Unit-prop
 ArePlaced-prop [] (place ∷ places) = λ h. absurd h
 ArePlaced-prop (part ∷ parts) (place ∷ places) =
     ×_prop (×_prop (Π_prop (λ name. Coded-set (coded_option coded_file) _ _)) (Π_prop (λ name. →_prop (Coded-set (coded_option coded_file) _ _)))) (ArePlaced-prop parts places)
 
+-- the steps that each place holds
 abbrev pub steps_in : List Place → List (List Step)
 steps_in places = map (λ place. place.steps.items) places
 

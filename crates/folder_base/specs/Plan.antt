@@ -4,6 +4,7 @@ use Rattle.std.specs.List.{list_any}
 use Rattle.std.specs.Option.{option_map_or}
 use Rattle.folder_base.specs.declared.plan.Plan.{Plan}
 
+-- No number is listed.
 abbrev pub is_empty : List ℕ → Bool
 is_empty [] = true
 is_empty (n ∷ ns) = false
@@ -12,6 +13,7 @@ is_empty (n ∷ ns) = false
 abbrev pub plans_none : List ℕ → Option ℕ → Bool
 plans_none fails stop = is_empty fails && is_none stop
 
+-- The plan has no fault and no stop.
 abbrev pub plans_nothing : Plan → Bool
 plans_nothing plan = plans_none plan.fails.items plan.stop
 

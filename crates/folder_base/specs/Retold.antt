@@ -19,13 +19,16 @@ retold live name from spot = gone_to from name (option_and_then (freed_spot live
 abbrev pub told_each : (Option Spot → Option Spot) → Spots → Spots
 told_each t spots = λ name. t (spots name)
 
+-- Whatever the name stands for now, what it was is what was told before, told again.
 abbrev pub IsRetoldWas : (Option Spot → Option Spot) → Was → Was → Type 0
 IsRetoldWas t old new = (now : Option Spot) → t (was_spot old now) ≡ was_spot new (t now)
 
+-- It is of the same name, and gives what was told before, told again.
 pub record IsRetoldChange (t : Option Spot → Option Spot) (old new : Change) : Type 0 where
   pub name : new.name ≡ old.name
   pub was : IsRetoldWas t old.was new.was
 
+-- so each of the changes, one for one
 abbrev pub AreRetoldChanges : (Option Spot → Option Spot) → List Change → List Change → Type 0
 AreRetoldChanges t [] [] = ⊤
 AreRetoldChanges t [] (new ∷ news) = ⊥
@@ -38,6 +41,7 @@ pub record IsRetold (t : Option Spot → Option Spot) (old new : Undo) : Type 0 
   pub plain : IsPlain old → IsPlain new
   pub undoes : (spots : Spots) → told_each t (undone old spots) ≡ undone new (told_each t spots)
 
+-- so each of the undoings, one for one
 abbrev pub AreRetold : (Option Spot → Option Spot) → List Undo → List Undo → Type 0
 AreRetold t [] [] = ⊤
 AreRetold t [] (new ∷ news) = ⊥

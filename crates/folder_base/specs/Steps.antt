@@ -25,11 +25,14 @@ Steps is_proper step old files new files' done =
     (start : Story) → Agrees start old files
     → Agrees start new files' × DoneBy (is_proper (told start old).now.live) step (told start old) (told start new) done
 
+-- The name stands.
 abbrev pub is_there : Name → Names → Bool
 is_there name live = is_some (live name)
 
+-- The name is free.
 abbrev pub is_free : Name → Names → Bool
 is_free name live = is_none (live name)
 
+-- Whatever stands: the call may always be made.
 abbrev pub is_any : Names → Bool
 is_any live = true

@@ -15,6 +15,7 @@ filled fill file = file.sure ++ map (λ _. fill) (unwrap_or file.more [])
 abbrev pub filled_names : ℕ → Names → Names
 filled_names fill names = λ name. option_map (λ file. lasting_file (filled fill file)) (names name)
 
+-- the names that a stop leaves where the first `kept` unsettled changes hold, with their files
 abbrev pub kept_names : ℕ → Disk → Names
 kept_names kept disk = as_now disk.live (first_kept kept (mark disk.live) disk.back)
 

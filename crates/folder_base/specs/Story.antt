@@ -28,15 +28,18 @@ pub record Shows (mine : Name → Bool) (disks : List Disk) (image : Image) : Ty
   pub possible : MayAny disks one
   pub agrees : Agree mine image one
 
+-- At each part's names the image is one that was possible at one of the part's moments.
 abbrev pub ShowsEach : List (Name × List Disk) → Image → Type 0
 ShowsEach [] image = ⊤
 ShowsEach (part ∷ parts) image = Shows (is_part part.0) part.1 image × ShowsEach parts image
 
+-- A crash at this moment may leave the image.
 abbrev pub MayAt : Moment → Image → Type 0
 MayAt (whole disk) image = May disk image
 MayAt (apart rest parts) image =
     Shows (λ name. not (is_in_some (map (λ part. part.0) parts) name)) rest image × ShowsEach parts image
 
+-- A crash at one of these moments may leave the image.
 abbrev pub MayEver : List Moment → Image → Type 0
 MayEver [] image = ⊥
 MayEver (moment ∷ past) image = MayAt moment image ⊎ MayEver past image
@@ -76,6 +79,7 @@ pub record World : Type 0 where
   pub since : ℕ
   pub story : Story
 
+-- the stems of parts
 abbrev pub stems : List Part → List Name
 stems parts = map (λ part. part.stem) parts
 
@@ -88,6 +92,7 @@ pub record IsWhole (world : World) : Type 0 where
   pub no_part : world.part ≡ None
   pub none_out : world.out ≡ []
 
+-- The name stands in the folder now.
 abbrev pub stands : World → Name → Type 0
 stands world name = IsSome (world.story.now.live name)
 
@@ -163,6 +168,7 @@ pub record DoesSome {T : Type 0} (proper : Type 0) (step : ℕ → Disk → Disk
 abbrev pub handed_part : World → Name → Part
 handed_part world stem = record { stem = stem; birth = inside stem world.story.now }
 
+-- the part with this stem as it is handed out: what it tells, and its counts at 0
 abbrev pub part_of : World → Name → World
 part_of world stem = record {
   tells = world.tells;
@@ -196,11 +202,13 @@ pub record Fans (stems : List Name) (old : World) (parts : List World) (new : Wo
   pub since : new.since ≡ length new.story.past
   pub handed : parts ≡ map (part_of old) stems
 
+-- the disks of those moments at which no part was out
 abbrev pub disks_of : List Moment → List Disk
 disks_of [] = []
 disks_of (whole disk ∷ past) = disk ∷ disks_of past
 disks_of (apart rest parts ∷ past) = disks_of past
 
+-- the stem of a part, and no bytes for a whole folder
 abbrev pub stem_of : World → Name
 stem_of world = option_map_or (λ part. part.stem) world.part []
 
@@ -208,6 +216,7 @@ stem_of world = option_map_or (λ part. part.stem) world.part []
 abbrev pub recent : ℕ → Story → List Moment
 recent since story = take (length story.past - since) story.past
 
+-- the moments before then
 abbrev pub ancient : ℕ → Story → List Moment
 ancient since story = drop (length story.past - since) story.past
 
@@ -225,9 +234,11 @@ gathered since (part ∷ parts) story = record {
   past = time_apart since (part ∷ parts) story ∷ map (λ _. time_apart since (part ∷ parts) story) (recent since story) ++ ancient since story;
 }
 
+-- the story of each part, with its stem
 abbrev pub stories : List World → List (Name × Story)
 stories parts = map (λ part. (stem_of part, part.story)) parts
 
+-- The folder's story is the one with these parts back, and no part is out.
 pub record Gathers (parts : List World) (old new : World) : Type 0 where
   pub story : new.story ≡ gathered old.since (stories parts) old.story
   pub part : new.part ≡ old.part

@@ -15,6 +15,7 @@ use Rattle.folder_base.specs.declared.side.Side.{Side}
 use Rattle.folder_base.specs.declared.side.Side.TheVariants.{All, Part as PartSide, Rest}
 use Rattle.folder_base.specs.declared.step.Step.{Step}
 
+-- what is told of a folder: which part it is, its parts that are out, the clock as they were handed out, and its story
 pub record Tale : Type 0 where
   pub part : Option Part
   pub out : List Part
@@ -42,6 +43,7 @@ still_out (place ∷ places) parts = []
 abbrev pub clock_out : Log → ℕ
 clock_out log = length (start log Rest).past
 
+-- what is told by a log, a side of its names, the steps since, and the places of parts that are back
 abbrev pub tale : Log → Side → List Step → List Place → Tale
 tale log All steps places = record { part = None; out = []; since = (chapter_of log).since; story = told (start log All) steps }
 tale log (PartSide stem) steps places =

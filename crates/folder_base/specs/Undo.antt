@@ -21,21 +21,26 @@ module _ {V : Type 0} (value : Option Stored → Option V) (there : Name → Opt
   was_by (Lost file) now = value file
   was_by (Still name) now = there name
 
+  -- the map with the name of a change as it was
   abbrev pub set_by : Change → (Name → Option V) → Name → Option V
   set_by change names = put names change.name (was_by change.was (names change.name))
 
+  -- the map with the name of each change as it was, one after another
   abbrev pub set_all_by : List Change → (Name → Option V) → Name → Option V
   set_all_by [] names = names
   set_all_by (change ∷ changes) names = set_all_by changes (set_by change names)
 
+  -- the map before the change that this undoes
   abbrev pub undone_by : Undo → (Name → Option V) → Name → Option V
   undone_by (Freed name file) names = put names name (value file)
   undone_by (Moved from to file) names = put (put names to (value file)) from (names to)
   undone_by (Listed changes) names = set_all_by changes.items names
 
+-- a file that has no name any more, where there is one
 abbrev pub lost_spot : Option Stored → Option Spot
 lost_spot file = option_map (λ f. lost (file_of f)) file
 
+-- a file that goes by this name now
 abbrev pub still_spot : Name → Option Spot
 still_spot name = Some (still name)
 
@@ -43,9 +48,11 @@ still_spot name = Some (still name)
 abbrev pub was_spot : Was → Option Spot → Option Spot
 was_spot = was_by lost_spot still_spot
 
+-- earlier names with the name of a change as it was
 abbrev pub set_spot : Change → Spots → Spots
 set_spot = set_by lost_spot still_spot
 
+-- earlier names with the name of each change as it was
 abbrev pub set_spots : List Change → Spots → Spots
 set_spots = set_all_by lost_spot still_spot
 
@@ -57,9 +64,11 @@ undone = undone_by lost_spot still_spot
 abbrev pub set_name : Names → Change → Names → Names
 set_name live = set_by (option_map file_of) live
 
+-- the same for each of these changes
 abbrev pub set_names : Names → List Change → Names → Names
 set_names live = set_all_by (option_map file_of) live
 
+-- the names with their files, before the change that this undoes
 abbrev pub undone_names : Names → Undo → Names → Names
 undone_names live = undone_by (option_map file_of) live
 
@@ -87,6 +96,7 @@ pub record AreUndone (undos : List Undo) (spots : Spots) (back : List Older) : T
   pub names : Undoes undos spots back
   pub touched : map touched_by undos ≡ map (λ older. older.touched) back
 
+-- It does not list its changes.
 abbrev pub IsPlain : Undo → Type 0
 IsPlain (Freed name file) = ⊤
 IsPlain (Moved from to file) = ⊤
@@ -113,6 +123,7 @@ IsOwnWas P name Apart = ⊤
 IsOwnWas P name (Lost file) = P name
 IsOwnWas P name (Still now) = P name × P now
 
+-- so for each of these changes
 abbrev pub AreOwnWas : (Name → Type 0) → List Change → Type 0
 AreOwnWas P [] = ⊤
 AreOwnWas P (change ∷ changes) = IsOwnWas P change.name change.was × AreOwnWas P changes
@@ -123,6 +134,7 @@ IsOwn P (Freed name file) = P name
 IsOwn P (Moved from to file) = P from × P to
 IsOwn P (Listed changes) = AreOwnWas P changes.items
 
+-- so for each of these undoings
 abbrev pub AreOwn : (Name → Type 0) → List Undo → Type 0
 AreOwn P [] = ⊤
 AreOwn P (undo ∷ undos) = IsOwn P undo × AreOwn P undos

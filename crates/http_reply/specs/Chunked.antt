@@ -35,9 +35,11 @@ line_size line =
     then Some (digits_value 16 (take digits line))
     else None
 
+-- a byte that does not end a line
 abbrev pub is_in_line : ℕ → Bool
 is_in_line b = not (b == line_feed)
 
+-- a line of this length, by the size that it tells, if it tells one
 abbrev pub line_read : ℕ → Option ℕ → LineRead
 line_read len None = Unreadable
 line_read len (Some size) = Whole size len

@@ -3,6 +3,7 @@ use Rattle.std.specs.Prelude.{ℕ, List, [], ◌++◌, take, length, if◌then�
 use Rattle.http_reply.specs.declared.stop.Stop.{Stop}
 use Rattle.http_reply.specs.declared.stop.Stop.TheVariants.{Last, Cut}
 
+-- the bytes of a body, and how it stops
 pub record Content : Type 0 where
   pub bytes : List ℕ
   pub stop : Stop

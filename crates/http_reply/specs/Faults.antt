@@ -7,6 +7,7 @@ use Rattle.http_reply.specs.declared.piece_fault.PieceFault.TheVariants.{Dial, S
 pub data Origin : Type 0 where
   of_asking of_hearing of_taking of_url of_reply : Origin
 
+-- where each fault comes from: the one table of this file
 abbrev pub origin : PieceFault → Origin
 origin Dial = of_asking
 origin Send = of_asking
@@ -25,6 +26,7 @@ origin (SizeChanged before now) = of_reply
 origin Encoded = of_reply
 origin (PieceLong told) = of_reply
 
+-- faults of a call or of memory
 abbrev pub breaks : Origin → Bool
 breaks of_asking = true
 breaks of_hearing = true
@@ -36,6 +38,7 @@ breaks of_reply = false
 abbrev pub is_broken : PieceFault → Bool
 is_broken fault = breaks (origin fault)
 
+-- faults of a call of the dialer
 abbrev pub dials : Origin → Bool
 dials of_asking = true
 dials of_hearing = true
@@ -47,6 +50,7 @@ dials of_reply = false
 abbrev pub is_call : PieceFault → Bool
 is_call fault = dials (origin fault)
 
+-- faults that a reply gives
 abbrev pub replies : Origin → Bool
 replies of_asking = false
 replies of_hearing = false
@@ -58,6 +62,7 @@ replies of_reply = true
 abbrev pub is_cause : PieceFault → Bool
 is_cause fault = replies (origin fault)
 
+-- faults that come once the request was asked
 abbrev pub follows : Origin → Bool
 follows of_asking = false
 follows of_hearing = true
@@ -69,6 +74,7 @@ follows of_reply = true
 abbrev pub is_after_request : PieceFault → Bool
 is_after_request fault = follows (origin fault)
 
+-- faults that come while the reply is received
 abbrev pub hears : Origin → Bool
 hears of_asking = false
 hears of_hearing = true

@@ -64,6 +64,7 @@ is_encoded fields =
 abbrev pub is_chunked : Fields → Bool
 is_chunked fields = nat_lt 0 (length (values (codes "transfer-encoding") fields))
 
+-- the range of a first byte, a last byte and a total, or of `*` for a total that is not told
 abbrev pub range_of : Option ℕ → Option ℕ → Option ℕ → Bool → Range
 range_of (Some a) (Some b) (Some n) star = Part a b n
 range_of (Some a) (Some b) None true = Open
@@ -71,16 +72,20 @@ range_of (Some a) (Some b) None false = Unreadable
 range_of (Some a) None n star = Unreadable
 range_of None b n star = Unreadable
 
+-- the range of a total alone
 abbrev pub past_of : Option ℕ → Range
 past_of (Some n) = Past n
 past_of None = Unreadable
 
+-- the text is `*`
 abbrev pub is_star : List ℕ → Bool
 is_star text = bytes_eq text (codes "*")
 
+-- what stands before the first such byte; all, where there is none
 abbrev pub before : ℕ → List ℕ → List ℕ
 before byte text = before_first (λ b. b == byte) text
 
+-- what stands behind the first such byte
 abbrev pub behind_first : ℕ → List ℕ → List ℕ
 behind_first byte text = after_first (λ b. b == byte) text
 
@@ -92,6 +97,7 @@ range_in text =
     if is_star front then past_of (number size)
     else range_of (number (before 45 front)) (number (behind_first 45 front)) (number size) (is_star size)
 
+-- the value of a `Content-Range` in bytes (RFC 9110, 14.4)
 unfoldable pub range_value : List ℕ → Range
 range_value value = if str_eq_ignore_ascii_case (take 6 value) (codes "bytes ") then range_in (drop 6 value) else Unreadable
 
@@ -101,5 +107,6 @@ one_range (value ∷ []) = range_value value
 one_range [] = Unreadable
 one_range (value ∷ other ∷ others) = Unreadable
 
+-- what the `Content-Range` of the fields tells
 abbrev pub content_range : Fields → Range
 content_range fields = one_range (values (codes "content-range") fields)

@@ -19,10 +19,12 @@ pub data Standing : Type 0 where
   whole : ResponseHead → ℕ → Standing
   none : Standing
 
+-- So it stands at the front of the bytes: a whole head of this length, or none.
 abbrev pub StandsAt : List ℕ → Standing → Type 0
 StandsAt bytes (whole head len) = ReadsResponse bytes head (drop len bytes) × (len ≡ length (print_response head))
 StandsAt bytes none = HasNoResponse bytes
 
+-- the bytes of a reply from a place on, as far as they are read for its heads
 abbrev pub heads_at : List ℕ → ℕ → List ℕ
 heads_at reply at = drop at (take heads_room reply)
 
@@ -42,10 +44,12 @@ pub data HeadsEnd : Type 0 where
   bad : ℕ → HeadsEnd
   long short : HeadsEnd
 
+-- what a head leads to: the place of the next, or the end of the heads
 pub data HeadStep : Type 0 where
   again : ℕ → HeadStep
   ends : HeadsEnd → HeadStep
 
+-- what follows from what stands at a place
 abbrev pub after_head : List ℕ → ℕ → Standing → HeadStep
 after_head reply at none =
     if not (may_start (heads_at reply at)) then ends (bad at)

@@ -9,6 +9,7 @@ use Rattle.http_reply.specs.declared.step.Step.TheVariants.{Need, Pass, Take, En
 use Rattle.http_reply.specs.Content.{Content, stopped, behind, sized}
 use Rattle.http_reply.specs.Chunked.{Rest, chunks, in_data, after_data, limit}
 
+-- the content of what is still to come, in this part of a body
 abbrev pub part_content : Part → Rest
 part_content (Whole left) = λ at sum bytes. sized left bytes
 part_content Line = chunks
@@ -41,12 +42,14 @@ part_left Gap = 0
 abbrev pub passed : Chunks → ℕ
 passed c = c.sum - part_left c.part
 
+-- In the midst of a chunk something of it is still to come, and no more than the sizes told so far.
 abbrev pub HasLeft : ℕ → Part → Type 0
 HasLeft sum (Whole left) = left ≤ sum
 HasLeft sum Line = ⊤
 HasLeft sum (Data left) = (0 < left) × (left ≤ sum)
 HasLeft sum Gap = ⊤
 
+-- The sizes told so far are within the limit, the places fit their type, and the part has something left.
 pub record IsSound (c : Chunks) : Type 0 where
   pub sum : c.sum ≤ limit
   pub room : c.at + room c < 2 ^ 63

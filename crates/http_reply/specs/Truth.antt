@@ -14,9 +14,11 @@ pub record Chunk : Type 0 where
   pub line : List ℕ
   pub bytes : List ℕ
 
+-- a chunk as it is sent
 abbrev pub print_chunk : Chunk → List ℕ
 print_chunk c = c.line ++ (c.bytes ++ crlf_bytes)
 
+-- A chunk has bytes, and its line tells how many.
 pub record IsChunk (c : Chunk) : Type 0 where
   pub some : 0 < length c.bytes
   pub reads : chunk_line c.line ≡ Whole (length c.bytes) (length c.line)
@@ -38,6 +40,7 @@ pub record IsSizedBody (fields : Fields) (content text : List ℕ) : Type 0 wher
   pub told : length_told fields ≡ Some (length content)
   pub text_is : text ≡ content
 
+-- The text is the body of these bytes, by its length or in chunks.
 abbrev pub IsBody : Fields → List ℕ → List ℕ → Type 0
 IsBody fields content text = IsSizedBody fields content text ⊎ IsChunkedBody fields content text
 
@@ -55,6 +58,7 @@ pub record IsPlainBody (fields : Fields) (content text : List ℕ) : Type 0 wher
   pub not_chunked : IsFalse (is_chunked fields)
   pub text_is : text ≡ content
 
+-- The text is the body of a part, plain or in chunks.
 abbrev pub IsPartBody : Fields → List ℕ → List ℕ → Type 0
 IsPartBody fields content text = IsPlainBody fields content text ⊎ IsChunkedBody fields content text
 
@@ -67,6 +71,7 @@ Answers bytes from head body =
     × IsTrue (has_no_length_but (length bytes - from) fields) × IsPartBody fields (drop from bytes) body)
     ⊎ ((0 < from) × (from ≡ length bytes) × (status_code head ≡ 416) × (content_range fields ≡ Past from))
 
+-- The reply is one that a server with these bytes gives from `from` on, with heads before it as it may have.
 pub record IsHonest (bytes : List ℕ) (from : ℕ) (reply : List ℕ) : Type 0 where
   pub early : List ResponseHead
   pub head : ResponseHead
@@ -75,6 +80,7 @@ pub record IsHonest (bytes : List ℕ) (from : ℕ) (reply : List ℕ) : Type 0 
   pub plain : IsFalse (is_encoded (fields_of head))
   pub answers : Answers bytes from head body
 
+-- The reply has a status that gives nothing of a resource.
 pub record IsRefusing (reply : List ℕ) : Type 0 where
   pub early : List ResponseHead
   pub head : ResponseHead

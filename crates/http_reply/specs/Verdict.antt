@@ -21,9 +21,11 @@ pub record Verdict : Type 0 where
   pub told : Option ℕ
   pub end : Result ℕ PieceFault
 
+-- a head that gives nothing, with the total that it told
 abbrev pub refuse : Option ℕ → PieceFault → Judged
 refuse told fault = record { told = told; plan = Err fault }
 
+-- a head whose body is taken by this plan, with the total that it told
 abbrev pub accept : Option ℕ → Plan → Judged
 accept told plan = record { told = told; plan = Ok plan }
 
@@ -36,19 +38,23 @@ changes (Some known) total = if known == total then None else Some (SizeChanged 
 abbrev pub total_fault : Option ℕ → ℕ → Option PieceFault
 total_fault known total = if nat_lt limit total then Some (PieceLong total) else changes known total
 
+-- a refusal where there is a fault, and else what comes next
 abbrev pub refuse_or : Option ℕ → Option PieceFault → Judged → Judged
 refuse_or told (Some fault) next = refuse told fault
 refuse_or told None next = next
 
+-- a refusal where the total has a fault, and else what comes next
 abbrev pub with_total : Option ℕ → ℕ → Judged → Judged
 with_total known total next = refuse_or (Some total) (total_fault known total) next
 
+-- a whole resource: by the length that its head tells
 abbrev pub judge_200 : ℕ → Option ℕ → Option ℕ → Judged
 judge_200 from known None = refuse None NoLength
 judge_200 from known (Some total) =
     with_total known total (
     if nat_lt total from then refuse (Some total) (BadRange from (Some total)) else accept (Some total) (Whole (Some total)))
 
+-- a part of a resource: by its range, which has to begin where it was asked to
 abbrev pub judge_206 : ℕ → Option ℕ → Fields → Range → Judged
 judge_206 from known fields (Part a b n) =
     with_total known n (
@@ -60,6 +66,7 @@ judge_206 from known fields Open = refuse None NoLength
 judge_206 from known fields (Past n) = refuse None (BadRange from None)
 judge_206 from known fields Unreadable = refuse None (BadRange from None)
 
+-- a range past the end: nothing is left where the total is the place asked from, which is not the start
 abbrev pub judge_416 : ℕ → Option ℕ → Fields → Range → Judged
 judge_416 from known fields (Past n) =
     if from == 0 then refuse None (Status 416)
@@ -86,6 +93,7 @@ stop_fault got told Cut = CutShort got told
 stop_fault got told (Bad at) = BadHead at
 stop_fault got told (Long sum) = PieceLong sum
 
+-- a fault where there is one, and else what comes next
 abbrev pub fault_or : Option PieceFault → Result ℕ PieceFault → Result ℕ PieceFault
 fault_or (Some fault) next = Err fault
 fault_or None next = next
@@ -125,6 +133,7 @@ ranged_end from count total content =
     then (if from + count == total then Ok total else Err (CutShort (from + count) (Some total)))
     else Err (stop_fault (from + length content.bytes) (Some total) content.stop)
 
+-- the content of a range, in chunks or of a length
 abbrev pub ranged_content : Bool → ℕ → ℕ → List ℕ → Content
 ranged_content chunked count at rest = if chunked then chunks at 0 rest else sized count rest
 
@@ -141,10 +150,12 @@ plan_verdict from known at rest (Ranged count total chunked) =
     let content = ranged_content chunked count at rest in
     record { bytes = take count content.bytes; told = Some total; end = ranged_end from count total content }
 
+-- the verdict on a head and the rest of the reply: no bytes where the head gives nothing
 abbrev pub judged_verdict : ℕ → Option ℕ → ℕ → List ℕ → Option ℕ → Result Plan PieceFault → Verdict
 judged_verdict from known at rest told (Err fault) = record { bytes = []; told = told; end = Err fault }
 judged_verdict from known at rest told (Ok plan) = plan_verdict from known at rest plan
 
+-- no bytes, no total, and this fault
 abbrev pub refused : PieceFault → Verdict
 refused fault = record { bytes = []; told = None; end = Err fault }
 

@@ -19,6 +19,7 @@ word_value false_word = truth false
 
 -- The tokens of a value, and its tree. The number of a numeral is taken as it is, in range or not.
 mutual
+  -- a value, as its tokens
   pub data IsValue : List Token → Tree → Type 0 where
     a_word : {w : Word} → IsValue (word w ∷ []) (word_value w)
     a_number : {s : List ℕ} → IsValue (numeral s ∷ []) (number (value_of s))

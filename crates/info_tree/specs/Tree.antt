@@ -3,6 +3,7 @@ use Rattle.std.specs.Prelude.{ℕ, ◌+◌, List, [], ◌∷◌, Bool}
 use Rattle.text_base.specs.Number.{Number}
 
 mutual
+  -- a JSON value (RFC 8259, 3)
   pub data Tree : Type 0 where
     null : Tree
     truth : Bool → Tree
@@ -11,10 +12,12 @@ mutual
     list : Trees → Tree
     mapping : Pairs → Tree
 
+  -- the values of a list
   pub data Trees : Type 0 where
     no_trees : Trees
     a_tree : Tree → Trees → Trees
 
+  -- the keys and values of a map, in order
   pub data Pairs : Type 0 where
     no_pairs : Pairs
     a_pair : List ℕ → Tree → Pairs → Pairs

@@ -38,6 +38,7 @@ standing_len (Some len) (Some size) = if nat_le len size then Some len else None
 abbrev pub IsStanding : Name → Names → Name → Option ℕ → Type 0
 IsStanding prefix live name found = (len : ℕ) → (StandsAt prefix live name len → found ≡ Some len) × (found ≡ Some len → StandsAt prefix live name len)
 
+-- There is a number, and the length is at most that.
 abbrev pub AtMost : ℕ → Option ℕ → Type 0
 AtMost len most = MatchOption most ⊥ (λ n. len ≤ n)
 

@@ -10,6 +10,7 @@ use Rattle.text_base.specs.declared.faults.FolderCall.TheVariants.{Create, Appen
 use Rattle.folder_base.specs.declared.store_fault.StoreFault.{StoreFault}
 use Rattle.folder_base.specs.declared.store_fault.StoreFault.TheVariants.{Folder, OutOfMemory as NoMemory}
 
+-- the fault of a lane for a fault of its folder in this call
 abbrev pub store_fault : FolderCall → FolderFault → StoreFault
 store_fault call Failed = Folder call
 store_fault call OutOfMemory = NoMemory

@@ -39,6 +39,7 @@ pub record IsEarlier (stem current : Name) (entry : Disk) (first sure : Bytes) (
   pub each : (name : Name) → IsSpot current (MayName stem entry first sure complete) live name (entry.live name) (spots name)
   pub some : ((first ≡ []) × (entry.live stem ≡ None)) ⊎ ((name : Name) × (MayName stem entry first sure complete name × (spots name ≡ Some (still current))))
 
+-- so for each of these maps of earlier names
 abbrev pub AllEarlier : Name → Name → Disk → Bytes → Bytes → Bool → Names → List Spots → Type 0
 AllEarlier stem current entry first sure complete live [] = ⊤
 AllEarlier stem current entry first sure complete live (spots ∷ back) =

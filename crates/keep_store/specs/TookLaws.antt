@@ -15,9 +15,11 @@ use Rattle.keep_store.specs.Publish.{Stays, FailedBetween, MayRefuse}
 use Rattle.keep_store.specs.Safe.{Kept}
 use Rattle.keep_store.specs.Lane.{Seen, Has, Since, Keeps, IsRefusal, Took, MayAnswer}
 
+-- A folder that nothing was asked of stays so.
 pub stays_none : (world : World) → Stays world world
 stays_none world = record { tells = λ h. h; still_tells = λ h. h; steady = λ h. h; faults = omega arith; refusals = omega arith; part = refl; out = refl }
 
+-- Two calls in turn leave of a folder what each of them does.
 pub stays_both : {first second third : World} → Stays first second → Stays second third → Stays first third
 stays_both a b = record {
   tells = λ h. a.tells (b.tells h);
@@ -35,14 +37,17 @@ refuse_later first second third (Folder call) stays failed =
     record { before = failed.before; after = failed.after; earlier = stays_both stays failed.earlier; fails = failed.fails; later = failed.later }
 refuse_later first second third OutOfMemory stays rose = omega (arith, rose, stays.refusals)
 
+-- A fault of an earlier call is one of both calls in turn.
 refuse_sooner : (first second third : World) (fault : StoreFault) → Stays second third → MayRefuse first second fault → MayRefuse first third fault
 refuse_sooner first second third (Folder call) stays failed =
     record { before = failed.before; after = failed.after; earlier = failed.earlier; fails = failed.fails; later = stays_both failed.later stays }
 refuse_sooner first second third OutOfMemory stays rose = omega (arith, rose, stays.refusals)
 
+-- A refusal in the second of two runs is one in both in turn.
 pub refusal_later : {first second third : World} {fault : StoreFault} → Stays first second → IsRefusal second third fault → IsRefusal first third fault
 refusal_later {first} {second} {third} {fault} stays is = record { rose = refuse_later first second third fault stays is.rose; steady = λ steady tells. is.steady (stays.steady steady) (stays.still_tells tells) }
 
+-- A refusal in the first of two runs is one in both in turn.
 pub refusal_sooner : {first second third : World} {fault : StoreFault} → Stays second third → IsRefusal first second fault → IsRefusal first third fault
 refusal_sooner {first} {second} {third} {fault} stays is = record { rose = refuse_sooner first second third fault stays is.rose; steady = is.steady }
 
@@ -66,6 +71,7 @@ kept_more stem entry bytes more whole image none kept = record {
         front_empty (c ∷ b) e = absurd (cc)
     fewer (Some world) first = (more ++ first.0, first.1 ∙ append_assoc bytes more first.0)
 
+-- A run of no puts takes nothing.
 pub took_none : (lane : Seen) → Took lane [] lane
 took_none lane = record {
   number = refl;

@@ -30,6 +30,7 @@ abbrev pub share_end : Share → Content → BodyEnd
 share_end (After skip passed) content = Stopped content.stop (passed + length content.bytes)
 share_end (Upto left passed) content = if nat_le left (length content.bytes) then Full else Stopped content.stop (passed + length content.bytes)
 
+-- what is taken of a content for a share, and how that ends
 abbrev pub poured : Share → Content → Poured
 poured share content = record { bytes = share_bytes share content.bytes; end = share_end share content }
 
@@ -84,6 +85,7 @@ pub record At : Type 0 where
   pub held : Held
   pub wire : Wire
 
+-- what is to come, from a place in a body on
 abbrev pub to_come : At → Poured
 to_come at = ahead at.share at.chunks at.held at.wire
 
@@ -132,6 +134,7 @@ module _ {T : Type 0} (took : T → List ℕ → T → Type 0) (may_refuse : T �
     pub front : IsTrue wire.tells → (more : List ℕ) × ((to_come old).bytes ≡ bytes ++ (piece ++ more))
     pub asks : IsTrue wire.tells → AsksNothing old.wire wire
 
+  -- one turn by its answer: not at the end, at the end, or a call failed
   abbrev pub Turns : Result (Option BodyEnd) BodyFault → At → T → At → T → Type 0
   Turns (Ok None) old t new u = Goes old t new u
   Turns (Ok (Some end)) old t new u = Ends end old t new.wire u
@@ -147,6 +150,7 @@ module _ {T : Type 0} (took : T → List ℕ → T → Type 0) (may_refuse : T �
       (xs : List ℕ) × TookSome took t xs u × RefusedBy fault t xs
       × ((c : Content) → (more : List ℕ) × ((poured old (behind piece c)).bytes ≡ xs ++ more))
 
+  -- the whole body by its answer: its end, or a call failed
   abbrev pub Pours : Result BodyEnd BodyFault → At → T → Wire → T → Type 0
   Pours (Ok end) old t wire u = Ends end old t wire u
   Pours (Err fault) old t wire u = Fails fault old t wire u

@@ -20,6 +20,7 @@ abbrev pub lines_after : LinePlace → List ℕ → LinePlace
 lines_after place [] = place
 lines_after place (b ∷ bytes) = lines_after (place_after place b) bytes
 
+-- the place is in an empty line behind text
 abbrev pub is_empty : LinePlace → Bool
 is_empty Start = false
 is_empty Text = false

@@ -26,6 +26,7 @@ abbrev pub world_of : List Page → World
 world_of [] url = None
 world_of (page ∷ pages) url = if lead_alike (address page.url) (address url) then Some page.bytes.items else world_of pages url
 
+-- the place that was dialed
 abbrev pub place_of : MemDial → Place
 place_of dial = record { host = dial.host; port = dial.port }
 
@@ -53,9 +54,11 @@ IsPlaced (Ok to) bytes None = ⊥
 IsPlaced (Err e) bytes (Some r) = ⊥
 IsPlaced (Err e) bytes None = Unit {0}
 
+-- a talk as a wire tells it
 abbrev pub talk_of : MemTalk → Talk
 talk_of talk = record { place = place_of talk.dial; dial = talk.turn; request = talk.request.items; reply = talk.reply.items }
 
+-- a connection as a wire tells it
 abbrev pub connection_of : MemLine → Connection
 connection_of line = record { place = place_of line.dial; dial = line.turn; sent = line.sent.items; left = drop line.at line.reply.items }
 

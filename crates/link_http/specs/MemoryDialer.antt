@@ -10,6 +10,7 @@ use Rattle.link_http.specs.Memory.{wire_by, world_at}
 use Rattle.link_http.specs.Turns.{turn_at, plans_no_fault, plans_whole_replies, fails_dial, fails_send, fails_recv}
 use Rattle.link_http.specs.Wire.{Wire, has_failed}
 
+-- what a dialer in memory tells
 abbrev pub wire_of : DialerMem → Wire
 wire_of d =
     wire_by (plans_no_fault d.script.items) (plans_whole_replies d.script.items) (world_at d.resources.items) d.faults d.dials.items d.talks.items d.line

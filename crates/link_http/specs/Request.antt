@@ -37,6 +37,7 @@ address_at url (Some host) =
     if not (bytes_eq url.scheme (codes "http")) then Err Scheme
     else Ok (to_target host (unwrap_or url.port 80) url)
 
+-- the address of a URL as it was read
 abbrev pub address_of : Parsed Parts → Result Address PieceFault
 address_of (Err e) = Err Url
 address_of (Ok url) = address_at url (option_map host_text (nonempty_host url))

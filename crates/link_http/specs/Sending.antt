@@ -7,6 +7,7 @@ use Rattle.link_http.specs.Wire.{Wire, Connection, AsksNothing, IsServed, ends_r
 abbrev pub is_clean : ℕ → Bool
 is_clean b = not (b == 10 || b == 13)
 
+-- The byte is no part of a line's end.
 abbrev pub IsClean : ℕ → Type 0
 IsClean b = is_clean b ≡ true
 

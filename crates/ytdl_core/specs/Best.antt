@@ -7,9 +7,11 @@ use Rattle.info_item.specs.Fields.{has_video_of, has_audio_of}
 use Rattle.fmt_sort.specs.Order.{compared}
 use Rattle.fmt_sort.specs.Spec.{Wish}
 
+-- the format has video
 abbrev pub has_video : Format → Bool
 has_video format = has_video_of format.tree
 
+-- the format has audio
 abbrev pub has_audio : Format → Bool
 has_audio format = has_audio_of format.tree
 

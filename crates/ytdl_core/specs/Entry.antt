@@ -24,6 +24,7 @@ fits_a_name = list_all (λ b. not (is_name_special b))
 abbrev pub is_word_byte : ℕ → Bool
 is_word_byte b = is_ascii_alphanumeric b || b == 95 || b == 45
 
+-- 1 to 30 such bytes
 abbrev pub is_short_word : List ℕ → Bool
 is_short_word s = nat_le 1 (length s) && nat_le (length s) 30 && list_all is_word_byte s
 
@@ -46,12 +47,14 @@ titled None id format = NotBuilt
 titled (Some title) id format =
     if is_plain_stem title id && is_plain_format format then Shown (stem_of title id) (ext_of format.tree) else NotBuilt
 
+-- what is chosen of an item's formats
 pub data Choice : Type 0 where
   one : Format → Choice
   nothing : Choice
   -- several formats, of which no word chose
   open_choice : Choice
 
+-- the format that was found, or none
 abbrev pub choice_of : Option Format → Choice
 choice_of None = nothing
 choice_of (Some format) = one format
@@ -73,6 +76,7 @@ abbrev pub choice_by : Wish → Option Pick → List Format → Choice
 choice_by wish None formats = only formats
 choice_by wish (Some pick) formats = choice_of (picked wish pick formats)
 
+-- what a selection chooses of these formats
 abbrev pub chosen : Selection → List Format → Choice
 chosen selection formats = choice_by selection.wish selection.pick formats
 
@@ -82,6 +86,7 @@ entry_of_choice item (one format) = titled (text_at item.tree (codes "title")) i
 entry_of_choice item nothing = NoFormat
 entry_of_choice item open_choice = NotBuilt
 
+-- the entry of an item, by what is chosen of it
 abbrev pub own_entry : Selection → Item → Entry
 own_entry selection item = entry_of_choice item (chosen selection item.formats)
 

@@ -7,6 +7,7 @@ use Rattle.ytdl_core.specs.declared.run_fault.InfoFault.TheVariants.{Tree, Item}
 use Rattle.ytdl_core.specs.declared.run_fault.RunFault.{RunFault}
 use Rattle.ytdl_core.specs.declared.run_fault.RunFault.TheVariants.{Info, OutOfMemory}
 
+-- a fault of reading the tree
 abbrev pub of_tree : TreeFault → RunFault
 of_tree (tree.Syntax at) = Info (Tree (tree.Syntax at))
 of_tree (tree.Depth at) = Info (Tree (tree.Depth at))
@@ -15,6 +16,7 @@ of_tree (tree.NotUtf8 at) = Info (Tree (tree.NotUtf8 at))
 of_tree tree.TooLong = Info (Tree tree.TooLong)
 of_tree tree.OutOfMemory = OutOfMemory
 
+-- a fault of reading the items
 abbrev pub of_items : ItemFault → RunFault
 of_items (item.NotItem k) = Info (Item (item.NotItem k))
 of_items (item.NoId k) = Info (Item (item.NoId k))

@@ -23,9 +23,11 @@ use Rattle.ytdl_core.specs.declared.entry.Entry.TheVariants as entry
 abbrev pub Script : Type 0
 Script = List (Which × ℕ)
 
+-- all these bytes to one sink
 abbrev pub all_to : Which → List ℕ → Script
 all_to which bytes = map (λ b. (which, b)) bytes
 
+-- the sink is standard output
 abbrev pub is_out : Which → Bool
 is_out Out = true
 is_out Err = false
@@ -91,6 +93,7 @@ item_text (item.NoFormats k) = codes "item " ++ decimal (k + 1) ++ codes " has n
 item_text (item.FormatId k j) = codes "item " ++ decimal (k + 1) ++ codes " has a bad format"
 item_text item.OutOfMemory = []
 
+-- why the information file is refused
 abbrev pub info_text : InfoFault → List ℕ
 info_text (Tree fault) = tree_text fault
 info_text (Item fault) = item_text fault

@@ -11,6 +11,7 @@ use Rattle.ytdl_core.specs.declared.run_fault.RunFault.TheVariants.{Options, Inf
 use Rattle.ytdl_core.specs.declared.entry.Entry.{Entry}
 use Rattle.ytdl_core.specs.declared.entry.Entry.TheVariants as entry
 
+-- what became of an entry
 abbrev pub end_of : Entry → End
 end_of (entry.Shown stem extension) = Shown
 end_of entry.NoFormat = Fault job.NoFormat
@@ -27,6 +28,7 @@ is_shown_end Shown = true
 is_shown_end NotBuilt = false
 is_shown_end (Fault fault) = false
 
+-- whether the name of this entry was printed
 abbrev pub is_shown : JobEnd → Bool
 is_shown job = is_shown_end job.end
 

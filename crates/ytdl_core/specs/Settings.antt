@@ -50,6 +50,7 @@ fault_of_file (b ∷ bs) = None
 abbrev pub fault_of_print : List ℕ → Option OptionFault
 fault_of_print value = if bytes_eq value (codes "filename") then None else Some NotBuilt
 
+-- the fault of an option whose sort word has one
 abbrev pub fault_of_fields : Result (List Wanted) SortFault → Option OptionFault
 fault_of_fields (Ok fields) = None
 fault_of_fields (Err fault) = Some (BadSort fault)

@@ -6,9 +6,11 @@ use Rattle.ytdl_core.specs.declared.settings.Settings.{Settings as HeldSettings}
 use Rattle.ytdl_core.specs.Selection.{Selection}
 use Rattle.ytdl_core.specs.Settings.{Settings, Options}
 
+-- a selection as the definitions see it
 abbrev pub plain_selection : HeldSelection → Selection
 plain_selection selection = record { pick = selection.pick; wish = wish_of selection.sort }
 
+-- settings as the definitions see them
 abbrev pub plain_settings : HeldSettings → Settings
 plain_settings settings = record {
   info = settings.info;
@@ -22,6 +24,7 @@ plain_settings settings = record {
   quiet = settings.quiet;
 }
 
+-- options as the definitions see them
 abbrev pub plain_options : Held → Options
 plain_options options = record {
   info = options.info;
