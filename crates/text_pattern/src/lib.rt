@@ -1,0 +1,13 @@
+//! Patterns: a regular expression that a text is, and whether it matches anywhere in another text.
+#![tactic(auto)]
+
+mod fault;
+mod finder;
+mod pattern;
+
+pub use fault::PatternFault;
+pub use finder::Finder;
+pub use pattern::Pattern;
+
+#[cfg(test)]
+mod tests;
