@@ -1,5 +1,6 @@
 mod ClaimedLemmas
 pub mod Laws
 mod LogLemmas
+mod SeatLemmas
 mod StepLemmas
 mod SumLemmas

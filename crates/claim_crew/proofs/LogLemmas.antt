@@ -18,8 +18,8 @@ module _ {T D : Type 0} (does : ℕ → T → D → T → D → Type 0) where
   alone fails workers me (x ∷ y ∷ ds) d e len w = absurd (omega arith)
   alone fails workers me (x ∷ []) d e len w = record {
     workers_are = w.workers_are;
-    is_over = w.is_over;
-    none_taken = w.none_taken;
+    is_finished = w.is_finished;
+    none_claimed = w.none_claimed;
     none_out = w.none_out;
     logs = me.0.log ∷ [];
     log_is = sym (append-nil me.0.log);
@@ -32,8 +32,8 @@ module _ {T D : Type 0} (does : ℕ → T → D → T → D → Type 0) where
       → both ≡ (joined me'.0 me.0, me'.1) → AreDone does fails n both all (es ++ es')
   together fails p q n me me' both ds ds' es es' all a b sum cut is = record {
     workers_are = ap (λ m. m.0.workers) is ∙ (ap₂ ◌+◌ b.workers_are a.workers_are ∙ sym sum);
-    is_over = ap (λ m. m.0.over) is ∙ b.is_over;
-    none_taken = ap (λ m. m.0.taken) is;
+    is_finished = ap (λ m. m.0.finished) is ∙ b.is_finished;
+    none_claimed = ap (λ m. m.0.claimed) is;
     none_out = ap (λ m. m.1) is ∙ b.none_out;
     logs = a.logs ++ b.logs;
     log_is = ap (λ m. m.0.log) is ∙ (ap₂ ◌++◌ a.log_is b.log_is ∙ sym (joined-append a.logs b.logs));

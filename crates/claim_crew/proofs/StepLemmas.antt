@@ -1,16 +1,16 @@
--- Each step keeps the rule.
-use Rattle.std.proofs.Common.{◌≡◌, ◌≢◌, ℕ, zero, suc, ◌+◌, ◌-◌, ◌<◌, ◌≤◌, ◌%◌, ◌^◌, ◌⊎◌, inl, inr, Bool, true, true≢false, cond, eqb, eq-eqb, ne_eqb, min, List, [], ◌∷◌, ◌++◌, map, length, set, refl, sym, ap, ◌∙◌, subst, ⊎_elim, arith, length-set, bit_or, ap₂}
+-- Each step of a worker keeps the rule: a draw, a look at the flag, and the setting of the flag.
+use Rattle.std.proofs.Common.{◌≡◌, ◌≢◌, ℕ, zero, suc, ◌+◌, ◌<◌, ◌≤◌, ◌%◌, ◌^◌, ◌⊎◌, inl, inr, Bool, true, true≢false, cond, eqb, eq-eqb, ne_eqb, min, List, [], ◌∷◌, ◌++◌, map, length, set, refl, sym, ap, ◌∙◌, subst, ⊎_elim, arith, length-set, bit_or}
 use Rattle.std.specs.Prelude.{slice_index, slice_set}
 use mathlib.Core.Option.{Option, some, none, some-injective, some-ne-none}
 use mathlib.Core.Logic.{dite}
 use native.Mathlib.Decide.{dec_lt, ℕ_discrete}
 use lib.ListN.{get_elem?}
-use Rattle.atomic_table.specs.Table.{State, Me, Act, keeps, takes, gives, step, Allows, Splits, Joins, Final, Seen, opening, stepped, Valid, carried_after, rest}
-use Rattle.atomic_table.proofs.Lists.{at_set, at_snoc, set_else, at_longer, at_map}
+use Rattle.atomic_table.specs.Table.{State, Me, Act, keeps, takes, gives, step, Allows, stepped, Valid, carried_after, rest}
+use Rattle.atomic_table.proofs.Lists.{at_set, set_else}
 use Rattle.claim_crew.specs.declared.rule.Progress.{Progress}
 use Rattle.claim_crew.specs.Claimed.{sum_of, sum_below}
-use Rattle.claim_crew.specs.Rule.{is_positive, fresh, joined, holding, passed, settled, Drew, Looked, Stopped, drawn, ProgressFits, Entry, IsOut, CounterInvariant, Settled, Holds, served}
-use Rattle.claim_crew.proofs.SumLemmas.{sum_of-append, sum_of_set, sum_of_lt, sum_of_others, sum_of_alone, at_append, set_there, at_below, at_lt, length-map, sum_of-map, at_map_from}
+use Rattle.claim_crew.specs.Rule.{is_positive, holding, passed, settled, Drew, Looked, Stopped, drawn, ProgressFits, Entry, IsOut, CounterInvariant, Holds, processed}
+use Rattle.claim_crew.proofs.SumLemmas.{sum_of-append, sum_of_set, sum_of_lt, at_append, set_there, at_below, sum_of-map, at_map_from}
 
 positive : (n : ℕ) → is_positive n ≡ true → 0 < n
 positive zero e = absurd (true≢false (sym e))
@@ -22,7 +22,8 @@ or_one (suc zero) le = refl
 or_one (suc (suc m)) le = absurd (omega arith)
 
 module _ {T : Type 0} where
-  fits_set : (P : ℕ → Progress T → Type 0) (views : List (Progress T)) (id : ℕ) (w : Progress T) → P id w → ((j : ℕ) (u : Progress T) → j ≢ id → get_elem? views j ≡ some u → P j u) → (j : ℕ) (u : Progress T) → get_elem? (set views id w) j ≡ some u → P j u
+  -- what holds of each view holds once one of them is changed
+  pub fits_set : (P : ℕ → Progress T → Type 0) (views : List (Progress T)) (id : ℕ) (w : Progress T) → P id w → ((j : ℕ) (u : Progress T) → j ≢ id → get_elem? views j ≡ some u → P j u) → (j : ℕ) (u : Progress T) → get_elem? (set views id w) j ≡ some u → P j u
   fits_set P views id w mine others j u e =
       ⊎_elim
       (λ (x : (j ≡ id) × (w ≡ u)). subst (λ (y : ℕ × Progress T). P y.0 y.1) (λ i. (sym x.0 i, x.1 i)) mine)
@@ -35,16 +36,17 @@ module _ {T : Type 0} where
       → ((m : ℕ) (y : T) → m < n → get_elem? homes m ≡ some (some y) → get_elem? homes' m ≡ some (some y))
       → ProgressFits xs owner n flag homes j v → ProgressFits xs owner' n' flag' homes' j v
   stays xs owner owner' n n' flag flag' homes homes' j v more raised out back f = record {
-    past = f.past;
+    misses = f.misses;
     start = f.start;
     idle = f.idle;
     drawn_below = omega (arith, f.drawn_below);
-    over = λ is. ⊎_elim (λ (a : length xs ≤ n). inl (omega arith)) (λ (b : 0 < flag). inr (omega arith)) (f.over is);
+    finished = λ is. ⊎_elim (λ (a : length xs ≤ n). inl (omega arith)) (λ (b : 0 < flag). inr (omega arith)) (f.finished is);
     out = λ i x at. let o = f.out i x at in let k = out x.0 o.1 o.0 o.2 in (k.0 ∙ o.0, omega (arith, o.1), k.1, o.3);
     back = λ i p at. let o = f.back i p at in (omega (arith, o.0), back p.0 p.2 o.0 o.1, o.2);
   }
 
-  out_else : (views : List (Progress T)) (id j k : ℕ) (w : Progress T) → j ≢ id → IsOut views j k → IsOut (set views id w) j k
+  -- an item that another seat has stays with it
+  pub out_else : (views : List (Progress T)) (id j k : ℕ) (w : Progress T) → j ≢ id → IsOut views j k → IsOut (set views id w) j k
   out_else views id j k w ne o = (o.0, set_else views id j w ne ∙ o.1, o.2, o.3, o.4, o.5)
 
   only_one : (x y : ℕ × T) (i : ℕ) → get_elem? (x ∷ []) i ≡ some y → x ≡ y
@@ -53,13 +55,13 @@ module _ {T : Type 0} where
 
 module _ {T : Type 0} (fails : T → Bool) where
   -- a draw of the number of a slot
-  module _ (xs : List T) (workers : ℕ) (id : ℕ) (v : Progress T) (c : List (ℕ × T)) (free : v.taken ≡ []) (may : v.past < v.workers) where
-    none_taken : (i : ℕ) (x : ℕ × T) → get_elem? v.taken i ≡ some x → ⊥
-    none_taken i x at = some-ne-none x (sym (subst (λ (l : List (ℕ × T)). get_elem? l i ≡ some x) free at))
+  module _ (xs : List T) (workers : ℕ) (id : ℕ) (v : Progress T) (c : List (ℕ × T)) (free : v.claimed ≡ []) (may : v.misses < v.workers) where
+    none_claimed : (i : ℕ) (x : ℕ × T) → get_elem? v.claimed i ≡ some x → ⊥
+    none_claimed i x at = some-ne-none x (sym (subst (λ (l : List (ℕ × T)). get_elem? l i ≡ some x) free at))
 
     next_is : (s : State T (Progress T)) (k : CounterInvariant fails xs workers s) → get_elem? s.views id ≡ some v → slice_set s.words 0 ((slice_index s.words 0 + 1) % 2 ^ 64) ≡ (k.n + 1) ∷ k.flag ∷ []
     next_is s k at =
-        let lt = sum_of_lt (λ (u : Progress T). u.past) (λ (u : Progress T). u.workers) s.views id v at may (λ j u e. (k.fits j u e).past) in
+        let lt = sum_of_lt (λ (u : Progress T). u.misses) (λ (u : Progress T). u.workers) s.views id v at may (λ j u e. (k.fits j u e).misses) in
         let small : k.n + 1 < 2 ^ 64 = omega (arith, lt, k.bound, k.workers_are, k.small) in
         ap (λ l. slice_set l 0 ((slice_index l 0 + 1) % 2 ^ 64)) k.words ∙ ap (λ (m : ℕ). m ∷ k.flag ∷ []) (omega (arith, small))
 
@@ -74,7 +76,7 @@ module _ {T : Type 0} (fails : T → Bool) where
       sized = length-set s.homes k.n none ∙ k.sized;
       small = k.small;
       workers_are = omega (arith, sum_of_set (λ (u : Progress T). u.workers) s.views id v w at, k.workers_are);
-      bound = omega (arith, sum_of_set (λ (u : Progress T). u.past) s.views id v w at, k.bound, lt);
+      bound = omega (arith, sum_of_set (λ (u : Progress T). u.misses) s.views id v w at, k.bound, lt);
       counted = counts;
       untouched = λ m y le m-at. set_else s.homes k.n m none (λ e. omega (arith, e, le)) ∙ k.untouched m y (omega arith) m-at;
       lent = lends;
@@ -111,7 +113,7 @@ module _ {T : Type 0} (fails : T → Bool) where
         lends m is = ⊎_elim
             (λ (e : (m ≡ k.n) × (none ≡ none)). subst (λ (j : ℕ). IsOut (set s.views id (holding v k.n x)) j m) (sym (ap (λ b. cond b id (k.owner m)) (eq-eqb m k.n e.0))) (holding v k.n x, set_there s.views id (holding v k.n x) v at, 0, (k.n, x), refl, sym e.0))
             (λ (e : (m ≢ k.n) × (get_elem? s.homes m ≡ some none)). subst (λ (j : ℕ). IsOut (set s.views id (holding v k.n x)) j m) (sym (ap (λ b. cond b id (k.owner m)) (ne_eqb m k.n e.0)))
-            (let o = k.lent m e.1 in out_else s.views id (k.owner m) m (holding v k.n x) (λ same. none_taken o.2 o.3 (subst (λ (u : Progress T). get_elem? u.taken o.2 ≡ some o.3) (some-injective _ _ (sym o.1 ∙ (ap (get_elem? s.views) same ∙ at))) o.4)) o))
+            (let o = k.lent m e.1 in out_else s.views id (k.owner m) m (holding v k.n x) (λ same. none_claimed o.2 o.3 (subst (λ (u : Progress T). get_elem? u.claimed o.2 ≡ some o.3) (some-injective _ _ (sym o.1 ∙ (ap (get_elem? s.views) same ∙ at))) o.4)) o))
             (at_set s.homes k.n m none none is)
 
         mine : ProgressFits xs (λ m. cond (eqb m k.n) id (k.owner m)) (k.n + 1) k.flag (set s.homes k.n none) id (holding v k.n x)
@@ -119,11 +121,11 @@ module _ {T : Type 0} (fails : T → Bool) where
             let f = stays xs k.owner (λ m. cond (eqb m k.n) id (k.owner m)) k.n (k.n + 1) k.flag k.flag s.homes (set s.homes k.n none) id v (omega arith) (omega arith)
             (λ m lo _ is. (old m lo, kept m lo ∙ is)) (λ m y lo is. kept m lo ∙ is) (k.fits id v at) in
             record {
-              past = f.past;
+              misses = f.misses;
               start = f.start;
               idle = λ z. absurd (omega (arith, z, may));
               drawn_below = omega arith;
-              over = f.over;
+              finished = f.finished;
               out = λ i y e. subst (λ (z : ℕ × T). (cond (eqb z.0 k.n) id (k.owner z.0) ≡ id) × (z.0 < k.n + 1) × (get_elem? (set s.homes k.n none) z.0 ≡ some none) × (get_elem? xs z.0 ≡ some z.1)) (only_one (k.n, x) y i e) (
                 ap (λ b. cond b id (k.owner k.n)) (eq-eqb k.n k.n refl),
                 omega arith,
@@ -144,10 +146,10 @@ module _ {T : Type 0} (fails : T → Bool) where
       sized = k.sized;
       small = k.small;
       workers_are = omega (arith, sum_of_set (λ (u : Progress T). u.workers) s.views id v w at, k.workers_are);
-      bound = omega (arith, sum_of_set (λ (u : Progress T). u.past) s.views id v w at, k.bound);
+      bound = omega (arith, sum_of_set (λ (u : Progress T). u.misses) s.views id v w at, k.bound);
       counted = counts;
       untouched = λ m y le m-at. k.untouched m y (omega arith) m-at;
-      lent = λ m is. let o = k.lent m is in out_else s.views id (k.owner m) m (passed v k.n) (λ same. none_taken o.2 o.3 (subst (λ (u : Progress T). get_elem? u.taken o.2 ≡ some o.3) (some-injective _ _ (sym o.1 ∙ (ap (get_elem? s.views) same ∙ at))) o.4)) o;
+      lent = λ m is. let o = k.lent m is in out_else s.views id (k.owner m) m (passed v k.n) (λ same. none_claimed o.2 o.3 (subst (λ (u : Progress T). get_elem? u.claimed o.2 ≡ some o.3) (some-injective _ _ (sym o.1 ∙ (ap (get_elem? s.views) same ∙ at))) o.4)) o;
       stop = λ p. let h = k.stop p in (h.0, h.1, omega (arith, h.2), h.3, h.4);
       fits = fits_set (ProgressFits xs k.owner (k.n + 1) k.flag s.homes) s.views id w mine (λ j u ne e. still j u (k.fits j u e));
     }
@@ -168,11 +170,11 @@ module _ {T : Type 0} (fails : T → Bool) where
         mine =
             let f = still id v (k.fits id v at) in
             record {
-              past = omega (arith, may);
+              misses = omega (arith, may);
               start = f.start;
               idle = λ z. absurd (omega (arith, z, may));
               drawn_below = omega arith;
-              over = λ _. inl (omega (arith, past));
+              finished = λ _. inl (omega (arith, past));
               out = f.out;
               back = f.back;
             }
@@ -181,7 +183,7 @@ module _ {T : Type 0} (fails : T → Bool) where
   Draws xs workers slots id me s = (w : Progress T) × (a : Act T) × Valid s.homes me.1 a × CounterInvariant fails xs workers (stepped s 0 ((slice_index s.words 0 + 1) % 2 ^ 64) id me.1 w a)
       × Drew (step slots 0 1 0 none) me (slice_index s.words 0) (w, carried_after me.1 a)
 
-  pub draws : (xs : List T) (workers slots id : ℕ) (me : Me T (Progress T)) → length xs ≡ slots → me.0.taken ≡ [] → me.0.past < me.0.workers
+  pub draws : (xs : List T) (workers slots id : ℕ) (me : Me T (Progress T)) → length xs ≡ slots → me.0.claimed ≡ [] → me.0.misses < me.0.workers
       → Allows (CounterInvariant fails xs workers) slots id me 0 (λ n. (n + 1) % 2 ^ 64) (Drew (step slots 0 1 0 none) me)
   draws xs workers slots id me len free may s k homes at _ = dite (dec_lt k.n slots) inside beyond
     where
@@ -213,11 +215,11 @@ module _ {T : Type 0} (fails : T → Bool) where
           )
 
   -- a slot is put back, and the flag becomes what it is now or is set
-  module _ (xs : List T) (workers : ℕ) (id : ℕ) (v : Progress T) (num : ℕ) (y : T) (only : (i : ℕ) (x : ℕ × T) → get_elem? v.taken i ≡ some x → x.0 ≡ num) (there : 0 < length v.taken) where
-    puts : (s : State T (Progress T)) (k : CounterInvariant fails xs workers s) → get_elem? s.views id ≡ some v → (over : Bool) (new flag : ℕ) → new ≡ flag → k.flag ≤ flag → flag ≤ 1
-        → (over ≡ true → 0 < flag) → (0 < flag → (0 < k.flag) ⊎ (fails y ≡ true))
-        → CounterInvariant fails xs workers (stepped s 1 new id ((num, y) ∷ []) (settled v over ((num, y) ∷ [])) gives)
-    puts s k at over new flag is raised one seen why = record {
+  module _ (xs : List T) (workers : ℕ) (id : ℕ) (v : Progress T) (num : ℕ) (y : T) (only : (i : ℕ) (x : ℕ × T) → get_elem? v.claimed i ≡ some x → x.0 ≡ num) (there : 0 < length v.claimed) where
+    puts : (s : State T (Progress T)) (k : CounterInvariant fails xs workers s) → get_elem? s.views id ≡ some v → (finished : Bool) (new flag : ℕ) → new ≡ flag → k.flag ≤ flag → flag ≤ 1
+        → (finished ≡ true → 0 < flag) → (0 < flag → (0 < k.flag) ⊎ (fails y ≡ true))
+        → CounterInvariant fails xs workers (stepped s 1 new id ((num, y) ∷ []) (settled v finished ((num, y) ∷ [])) gives)
+    puts s k at finished new flag is raised one seen why = record {
       n = k.n;
       flag = flag;
       owner = k.owner;
@@ -226,7 +228,7 @@ module _ {T : Type 0} (fails : T → Bool) where
       sized = length-set s.homes num (some y) ∙ k.sized;
       small = k.small;
       workers_are = omega (arith, sum_of_set (λ (u : Progress T). u.workers) s.views id v w at, k.workers_are);
-      bound = omega (arith, sum_of_set (λ (u : Progress T). u.past) s.views id v w at, k.bound);
+      bound = omega (arith, sum_of_set (λ (u : Progress T). u.misses) s.views id v w at, k.bound);
       counted = λ f. omega (arith, sum_of_set (drawn f) s.views id v w at, k.counted f, same f);
       untouched = λ m z le m-at. set_else s.homes num m (some y) (λ e. omega (arith, e, le, mine.1)) ∙ k.untouched m z le m-at;
       lent = lends;
@@ -241,13 +243,13 @@ module _ {T : Type 0} (fails : T → Bool) where
     }
       where
         w : Progress T
-        w = settled v over ((num, y) ∷ [])
+        w = settled v finished ((num, y) ∷ [])
 
         homes' : List (Option T)
         homes' = set s.homes num (some y)
 
-        first : (x : ℕ × T) × (get_elem? v.taken 0 ≡ some x)
-        first = at_below v.taken 0 there
+        first : (x : ℕ × T) × (get_elem? v.claimed 0 ≡ some x)
+        first = at_below v.claimed 0 there
 
         mine : (k.owner num ≡ id) × (num < k.n) × (get_elem? s.homes num ≡ some none)
         mine = let o = (k.fits id v at).out 0 first.0 first.1 in subst (λ (m : ℕ). (k.owner m ≡ id) × (m < k.n) × (get_elem? s.homes m ≡ some none)) (only 0 first.0 first.1) (o.0, o.1, o.2)
@@ -255,37 +257,37 @@ module _ {T : Type 0} (fails : T → Bool) where
         differ : (z : T) → some (some z) ≡ get_elem? s.homes num → ⊥
         differ z e = some-ne-none z (some-injective _ _ (e ∙ mine.2))
 
-        same : (f : ℕ → ℕ) → drawn f (settled v over ((num, y) ∷ [])) ≡ drawn f v
-        same f = omega (arith, sum_of-append (λ (p : Entry T). f p.0) v.log (map (λ x. (x.0, x.1, y)) v.taken), sum_of-map (λ (p : Entry T). f p.0) (λ (x : ℕ × T). (x.0, x.1, y)) v.taken)
+        same : (f : ℕ → ℕ) → drawn f (settled v finished ((num, y) ∷ [])) ≡ drawn f v
+        same f = omega (arith, sum_of-append (λ (p : Entry T). f p.0) v.log (map (λ x. (x.0, x.1, y)) v.claimed), sum_of-map (λ (p : Entry T). f p.0) (λ (x : ℕ × T). (x.0, x.1, y)) v.claimed)
 
-        lends : (m : ℕ) → get_elem? (set s.homes num (some y)) m ≡ some none → IsOut (set s.views id (settled v over ((num, y) ∷ []))) (k.owner m) m
+        lends : (m : ℕ) → get_elem? (set s.homes num (some y)) m ≡ some none → IsOut (set s.views id (settled v finished ((num, y) ∷ []))) (k.owner m) m
         lends m e = ⊎_elim
             (λ (t : (m ≡ num) × (some y ≡ none)). absurd (some-ne-none y t.1))
             (λ (t : (m ≢ num) × (get_elem? s.homes m ≡ some none)).
             let o = k.lent m t.1 in
-            out_else s.views id (k.owner m) m (settled v over ((num, y) ∷ [])) (λ same. t.0 (sym o.5 ∙ only o.2 o.3 (subst (λ (u : Progress T). get_elem? u.taken o.2 ≡ some o.3) (some-injective _ _ (sym o.1 ∙ (ap (get_elem? s.views) same ∙ at))) o.4))) o)
+            out_else s.views id (k.owner m) m (settled v finished ((num, y) ∷ [])) (λ same. t.0 (sym o.5 ∙ only o.2 o.3 (subst (λ (u : Progress T). get_elem? u.claimed o.2 ≡ some o.3) (some-injective _ _ (sym o.1 ∙ (ap (get_elem? s.views) same ∙ at))) o.4))) o)
             (at_set s.homes num m (some y) none e)
 
-        me : ProgressFits xs k.owner k.n flag (set s.homes num (some y)) id (settled v over ((num, y) ∷ []))
+        me : ProgressFits xs k.owner k.n flag (set s.homes num (some y)) id (settled v finished ((num, y) ∷ []))
         me = let f = k.fits id v at in record {
-          past = f.past;
+          misses = f.misses;
           start = f.start;
           idle = λ z. absurd (some-ne-none first.0 (sym (subst (λ (l : List (ℕ × T)). get_elem? l 0 ≡ some first.0) (f.idle z).0 first.1)));
           drawn_below = f.drawn_below;
-          over = λ e. inr (seen e);
+          finished = λ e. inr (seen e);
           out = λ i x e. absurd (some-ne-none x (sym e));
           back = λ i p e. ⊎_elim
               (λ (a : get_elem? v.log i ≡ some p). let o = f.back i p a in (o.0, set_else s.homes num p.0 (some y) (λ e'. differ p.2 (sym o.1 ∙ ap (get_elem? s.homes) e')) ∙ o.1, o.2))
-              (λ (a : (j : ℕ) × (get_elem? (map (λ x. (x.0, x.1, y)) v.taken) j ≡ some p)).
-              let t = at_map_from (λ (x : ℕ × T). (x.0, x.1, y)) v.taken a.0 p a.1 in
+              (λ (a : (j : ℕ) × (get_elem? (map (λ x. (x.0, x.1, y)) v.claimed) j ≡ some p)).
+              let t = at_map_from (λ (x : ℕ × T). (x.0, x.1, y)) v.claimed a.0 p a.1 in
               let o = f.out a.0 t.0 t.1 in
               subst (λ (q : Entry T). (q.0 < k.n) × (get_elem? (set s.homes num (some y)) q.0 ≡ some (some q.2)) × (get_elem? xs q.0 ≡ some q.1)) t.2
               (o.1, subst (λ (m : ℕ). get_elem? (set s.homes num (some y)) m ≡ some (some y)) (sym (only a.0 t.0 t.1)) (set_there s.homes num (some y) none mine.2), o.3))
-              (at_append v.log (map (λ x. (x.0, x.1, y)) v.taken) i p e);
+              (at_append v.log (map (λ x. (x.0, x.1, y)) v.claimed) i p e);
         }
 
   pub looks : (xs : List T) (workers slots id : ℕ) (me : Me T (Progress T)) (num : ℕ) (y : T) → me.1 ≡ (num, y) ∷ []
-      → ((i : ℕ) (x : ℕ × T) → get_elem? me.0.taken i ≡ some x → x.0 ≡ num) → 0 < length me.0.taken
+      → ((i : ℕ) (x : ℕ × T) → get_elem? me.0.claimed i ≡ some x → x.0 ≡ num) → 0 < length me.0.claimed
       → Allows (CounterInvariant fails xs workers) slots id me 1 (λ n. n) (Looked (step slots 1 0 0 none) me)
   looks xs workers slots id me num y is only there = subst (λ (c : List (ℕ × T)). Allows (CounterInvariant fails xs workers) slots id (me.0, c) 1 (λ n. n) (Looked (step slots 1 0 0 none) (me.0, c))) (sym is)
       (λ s k homes at _.
@@ -299,7 +301,7 @@ module _ {T : Type 0} (fails : T → Bool) where
       ))
 
   pub stops : (xs : List T) (workers slots id : ℕ) (me : Me T (Progress T)) (num : ℕ) (y : T) → me.1 ≡ (num, y) ∷ [] → fails y ≡ true
-      → ((i : ℕ) (x : ℕ × T) → get_elem? me.0.taken i ≡ some x → x.0 ≡ num) → 0 < length me.0.taken
+      → ((i : ℕ) (x : ℕ × T) → get_elem? me.0.claimed i ≡ some x → x.0 ≡ num) → 0 < length me.0.claimed
       → Allows (CounterInvariant fails xs workers) slots id me 1 (λ n. bit_or n 1) (Stopped (step slots 1 1 0 none) me)
   stops xs workers slots id me num y is bad only there = subst (λ (c : List (ℕ × T)). Allows (CounterInvariant fails xs workers) slots id (me.0, c) 1 (λ n. bit_or n 1) (Stopped (step slots 1 1 0 none) (me.0, c))) (sym is)
       (λ s k homes at _.
@@ -332,13 +334,13 @@ module _ {T : Type 0} (fails : T → Bool) where
           sized = k.sized;
           small = k.small;
           workers_are = omega (arith, sum_of_set (λ (u : Progress T). u.workers) s.views id me.0 w at, k.workers_are);
-          bound = omega (arith, sum_of_set (λ (u : Progress T). u.past) s.views id me.0 w at, k.bound);
+          bound = omega (arith, sum_of_set (λ (u : Progress T). u.misses) s.views id me.0 w at, k.bound);
           counted = λ g. omega (arith, sum_of_set (drawn g) s.views id me.0 w at, k.counted g);
           untouched = k.untouched;
           lent = λ m e. glanced s.views id m (k.owner m) me.0 (is_positive (slice_index s.words 1)) at (k.lent m e);
           stop = k.stop;
           fits = fits_set (ProgressFits xs k.owner k.n k.flag s.homes) s.views id w
-              (record { past = f.past; start = f.start; idle = f.idle; drawn_below = f.drawn_below; over = λ e. inr (positive k.flag (ap is_positive (sym found) ∙ e)); out = f.out; back = f.back })
+              (record { misses = f.misses; start = f.start; idle = f.idle; drawn_below = f.drawn_below; finished = λ e. inr (positive k.flag (ap is_positive (sym found) ∙ e)); out = f.out; back = f.back })
               (λ j u ne e. k.fits j u e);
         },
         refl,
@@ -347,147 +349,20 @@ module _ {T : Type 0} (fails : T → Bool) where
       glanced : (views : List (Progress T)) (id m j : ℕ) (v : Progress T) (b : Bool) → get_elem? views id ≡ some v → IsOut views j m → IsOut (set views id (settled v b [])) j m
       glanced views id m j v b at o = dite (ℕ_discrete j id)
           (λ e. subst (λ (i : ℕ). IsOut (set views id (settled v b [])) i m) (sym e)
-          (settled v b [], set_there views id (settled v b []) v at, o.2, o.3, subst (λ (u : Progress T). get_elem? u.taken o.2 ≡ some o.3) (some-injective _ _ (sym o.1 ∙ (ap (get_elem? views) e ∙ at))) o.4, o.5))
+          (settled v b [], set_there views id (settled v b []) v at, o.2, o.3, subst (λ (u : Progress T). get_elem? u.claimed o.2 ≡ some o.3) (some-injective _ _ (sym o.1 ∙ (ap (get_elem? views) e ∙ at))) o.4, o.5))
           (λ ne. out_else views id j m (settled v b []) ne o)
 
-  fits_fresh : (xs : List T) (owner : ℕ → ℕ) (n flag : ℕ) (homes : List (Option T)) (j : ℕ) (start : List T) (workers : ℕ) → (0 < workers → start ≡ xs) → ProgressFits xs owner n flag homes j (fresh start workers)
-  fits_fresh xs owner n flag homes j start workers is = record {
-    past = omega arith;
-    start = is;
-    idle = λ _. (refl, refl);
-    drawn_below = omega arith;
-    over = λ e. absurd (true≢false (sym e));
-    out = λ i x e. absurd (some-ne-none x (sym e));
-    back = λ i p e. absurd (some-ne-none p (sym e));
-  }
-
-  -- a view with no slot is not the one that a slot is out with
-  not_mine : (views : List (Progress T)) (id j m : ℕ) (v : Progress T) → get_elem? views id ≡ some v → v.taken ≡ [] → IsOut views j m → j ≢ id
-  not_mine views id j m v at free o same = some-ne-none o.3 (sym (subst (λ (l : List (ℕ × T)). get_elem? l o.2 ≡ some o.3) free (subst (λ (u : Progress T). get_elem? u.taken o.2 ≡ some o.3) (some-injective _ _ (sym o.1 ∙ (ap (get_elem? views) same ∙ at))) o.4)))
-
-  pub cuts : (xs : List T) (workers id : ℕ) (v : Progress T) (start : List T) (m : ℕ) → v ≡ fresh start m → 0 < m → Splits (CounterInvariant fails xs workers) id v (fresh v.start (v.workers - 1)) (fresh v.start 1)
-  cuts xs workers id v start m is some_part = subst (λ (u : Progress T). Splits (CounterInvariant fails xs workers) id u (fresh u.start (u.workers - 1)) (fresh u.start 1)) (sym is)
-      (λ s k at.
-      let l : Progress T = fresh start (m - 1) in
-      let whole : start ≡ xs = (k.fits id (fresh start m) at).start some_part in
-      let both = λ (g : Progress T → ℕ). sum_of-append g (set s.views id l) (fresh start 1 ∷ []) in
-      record {
-        n = k.n;
-        flag = k.flag;
-        owner = k.owner;
-        words = k.words;
-        flag_is = k.flag_is;
-        sized = k.sized;
-        small = k.small;
-        workers_are = omega (arith, both (λ (u : Progress T). u.workers), sum_of_set (λ (u : Progress T). u.workers) s.views id (fresh start m) l at, k.workers_are);
-        bound = omega (arith, both (λ (u : Progress T). u.past), sum_of_set (λ (u : Progress T). u.past) s.views id (fresh start m) l at, k.bound);
-        counted = λ f. omega (arith, both (drawn f), sum_of_set (drawn f) s.views id (fresh start m) l at, k.counted f);
-        untouched = k.untouched;
-        lent = λ j e. let o = k.lent j e in let p = out_else s.views id (k.owner j) j l (not_mine s.views id (k.owner j) j (fresh start m) at refl o) o in (p.0, at_longer (set s.views id l) (fresh start 1 ∷ []) (k.owner j) p.0 p.1, p.2, p.3, p.4, p.5);
-        stop = k.stop;
-        fits = λ j u e. ⊎_elim
-            (λ was. fits_set (ProgressFits xs k.owner k.n k.flag s.homes) s.views id l (fits_fresh xs k.owner k.n k.flag s.homes id start (m - 1) (λ _. whole)) (λ i y ne e'. k.fits i y e') j u was)
-            (λ new. subst (ProgressFits xs k.owner k.n k.flag s.homes j) new (fits_fresh xs k.owner k.n k.flag s.homes j start 1 (λ _. whole)))
-            (at_snoc (set s.views id l) (fresh start 1) u j e);
-      })
-
-  pub merges : (xs : List T) (workers id : ℕ) (v : Progress T) (other : ℕ) (u : Progress T) → v.taken ≡ [] → u.taken ≡ [] → 0 < v.workers → Joins (CounterInvariant fails xs workers) id v other u (joined v u) (fresh [] 0)
-  merges xs workers id v other u free free' some_part s k at apart there =
-      let b : Progress T = joined v u in
-      let was : get_elem? s.views other ≡ some u = sym (set_else s.views id other b apart) ∙ there in
-      let f = k.fits id v at in
-      let f' = k.fits other u was in
-      let one = λ (g : Progress T → ℕ). sum_of_set g s.views id v b at in
-      let two = λ (g : Progress T → ℕ). sum_of_set g (set s.views id b) other u (fresh [] 0) there in
-      record {
-        n = k.n;
-        flag = k.flag;
-        owner = k.owner;
-        words = k.words;
-        flag_is = k.flag_is;
-        sized = k.sized;
-        small = k.small;
-        workers_are = omega (arith, one (λ (y : Progress T). y.workers), two (λ (y : Progress T). y.workers), k.workers_are);
-        bound = omega (arith, one (λ (y : Progress T). y.past), two (λ (y : Progress T). y.past), k.bound);
-        counted = λ g. omega (arith, one (drawn g), two (drawn g), k.counted g, sum_of-append (λ (p : Entry T). g p.0) u.log v.log, ap (sum_of (λ (x : ℕ × T). g x.0)) free, ap (sum_of (λ (x : ℕ × T). g x.0)) free');
-        untouched = k.untouched;
-        lent = λ j e. let o = k.lent j e in
-            out_else (set s.views id b) other (k.owner j) j (fresh [] 0) (not_mine s.views other (k.owner j) j u was free' o) (out_else s.views id (k.owner j) j b (not_mine s.views id (k.owner j) j v at free o) o);
-        stop = k.stop;
-        fits = fits_set (ProgressFits xs k.owner k.n k.flag s.homes) (set s.views id b) other (fresh [] 0) (fits_fresh xs k.owner k.n k.flag s.homes other [] 0 (λ z. absurd (omega (arith, z))))
-            (λ j y ne e. fits_set (ProgressFits xs k.owner k.n k.flag s.homes) s.views id b
-            (record {
-              past = omega (arith, f.past, f'.past);
-              start = λ _. f.start some_part;
-              idle = λ z. (refl, ap₂ ◌++◌ (f'.idle (omega (arith, z))).1 (f.idle (omega (arith, z))).1);
-              drawn_below = f.drawn_below;
-              over = f.over;
-              out = λ i x e'. absurd (some-ne-none x (sym e'));
-              back = λ i p e'. ⊎_elim (λ a. f'.back i p a) (λ (a : (t : ℕ) × (get_elem? v.log t ≡ some p)). f.back a.0 p a.1) (at_append u.log v.log i p e');
-            })
-            (λ i z ne' e'. k.fits i z e') j y e);
-      }
-
-  pub begins : (xs : List T) (workers : ℕ) → length xs + workers < 2 ^ 64 → CounterInvariant fails xs workers (opening (0 ∷ 0 ∷ []) xs (fresh xs workers))
-  begins xs workers small = record {
-    n = 0;
-    flag = 0;
-    owner = λ _. 0;
-    words = refl;
-    flag_is = omega arith;
-    sized = length-map some xs;
-    small = small;
-    workers_are = omega arith;
-    bound = omega arith;
-    counted = λ f. let m : 0 ≡ min 0 (length xs) = omega arith in ap (sum_below f) m;
-    untouched = λ k x _ e. at_map some xs k x e;
-    lent = λ k e. let t = at_map_from some xs k none e in absurd (some-ne-none t.0 t.2);
-    stop = λ p. absurd (omega arith);
-    fits = one;
-  }
-    where
-      one : (j : ℕ) (v : Progress T) → get_elem? (fresh xs workers ∷ []) j ≡ some v → ProgressFits xs (λ _. 0) 0 0 (map some xs) j v
-      one zero v e = subst (ProgressFits xs (λ _. 0) 0 0 (map some xs) 0) (some-injective _ _ e) (fits_fresh xs (λ _. 0) 0 0 (map some xs) 0 xs workers (λ _. refl))
-      one (suc j) v e = absurd (some-ne-none v (sym e))
-
-  -- What the seat with all parts knows at the end
-  pub ends : (xs ys : List T) (ws : List ℕ) (workers id : ℕ) (v : Progress T) → v.workers ≡ workers → v.taken ≡ [] → v.over ≡ true → Final (Seen (CounterInvariant fails xs workers) id v) ws ys → Settled fails xs ys v.log
-  ends xs ys ws workers id v all free over e = record {
-    n = min k.n (length xs);
-    within = omega arith;
-    same_length = sym (e.3) ∙ k.sized;
-    counted = λ f. omega (arith, k.counted f, sum_of_alone (drawn f) s.views id v at (λ j u ne u-at. let i = (k.fits j u u-at).idle (idle j u ne u-at) in omega (arith, ap (sum_of (λ (x : ℕ × T). f x.0)) i.0, ap (sum_of (λ (p : Entry T). f p.0)) i.1)), ap (sum_of (λ (x : ℕ × T). f x.0)) free);
-    logged = λ i p p-at. let b = (k.fits id v at).back i p p-at in (omega (arith, b.0, inside p.0 p.1 b.2), b.2, e.4 p.0 p.2 b.1);
-    left = λ j x le x-at. e.4 j x (k.untouched j x (omega (arith, le, inside j x x-at)) x-at);
-    stop = λ lt. ⊎_elim (λ (a : length xs ≤ k.n). absurd (omega (arith, a, lt))) (λ (b : 0 < k.flag). let h = k.stop b in (h.0, h.1, omega (arith, h.2, lt), e.4 h.0 h.1 h.3, h.4)) ((k.fits id v at).over over);
-  }
-    where
-      s : State T (Progress T)
-      s = e.0
-
-      k : CounterInvariant fails xs workers e.0
-      k = e.1.0
-
-      at : get_elem? e.0.views id ≡ some v
-      at = e.1.1
-
-      idle : (j : ℕ) (u : Progress T) → j ≢ id → get_elem? e.0.views j ≡ some u → u.workers ≡ 0
-      idle j u ne u-at = sum_of_others (λ (y : Progress T). y.workers) e.0.views id j v u e.1.1 (omega (arith, e.1.0.workers_are, all)) ne u-at
-
-      inside : (j : ℕ) (x : T) → get_elem? xs j ≡ some x → j < length xs
-      inside j x x-at = at_lt xs j x x-at
-
 module _ {T : Type 0} where
-  pub only_taken : (taken : List (ℕ × T)) (x : T) (num : ℕ) → taken ≡ (num, x) ∷ [] → (i : ℕ) (y : ℕ × T) → get_elem? taken i ≡ some y → y.0 ≡ num
-  only_taken taken x num is i y at = ap (λ (z : ℕ × T). z.0) (sym (only_one (num, x) y i (subst (λ (l : List (ℕ × T)). get_elem? l i ≡ some y) is at)))
+  pub only_claimed : (claimed : List (ℕ × T)) (x : T) (num : ℕ) → claimed ≡ (num, x) ∷ [] → (i : ℕ) (y : ℕ × T) → get_elem? claimed i ≡ some y → y.0 ≡ num
+  only_claimed claimed x num is i y at = ap (λ (z : ℕ × T). z.0) (sym (only_one (num, x) y i (subst (λ (l : List (ℕ × T)). get_elem? l i ≡ some y) is at)))
 
-  pub one_taken : (taken : List (ℕ × T)) (x : ℕ × T) → taken ≡ x ∷ [] → 0 < length taken
-  one_taken taken x is = omega (arith, ap length is)
+  pub one_claimed : (claimed : List (ℕ × T)) (x : ℕ × T) → claimed ≡ x ∷ [] → 0 < length claimed
+  one_claimed claimed x is = omega (arith, ap length is)
 
   -- what a step that puts the item back leaves, once it was worked on
-  pub settles : (old me : Me T (Progress T)) (k : ℕ) (x y : T) (b : Bool) → me.0 ≡ old.0 → Holds k me x y → ◌≡◌ {A = Me T (Progress T)} (settled me.0 b me.1, rest me.1) (served old.0 k x y b, [])
+  pub settles : (old me : Me T (Progress T)) (k : ℕ) (x y : T) (b : Bool) → me.0 ≡ old.0 → Holds k me x y → ◌≡◌ {A = Me T (Progress T)} (settled me.0 b me.1, rest me.1) (processed old.0 k x y b, [])
   settles old me k x y b same h =
       let one : ◌≡◌ {A = Me T (Progress T)} (settled me.0 b me.1, rest me.1) (settled old.0 b ((k, y) ∷ []), []) = λ i. (settled (same i) b (h.1 i), rest (h.1 i)) in
-      let two : ◌≡◌ {A = Me T (Progress T)} (settled old.0 b ((k, y) ∷ []), []) (served old.0 k x y b, []) =
-      ap (λ (t : List (ℕ × T)). (record { start = old.0.start; workers = old.0.workers; past = old.0.past; drawn_below = old.0.drawn_below; over = b; taken = []; log = old.0.log ++ map (λ z. (z.0, z.1, y)) t }, [])) (ap (λ (v : Progress T). v.taken) (sym same) ∙ h.0) in
+      let two : ◌≡◌ {A = Me T (Progress T)} (settled old.0 b ((k, y) ∷ []), []) (processed old.0 k x y b, []) =
+      ap (λ (t : List (ℕ × T)). (record { start = old.0.start; workers = old.0.workers; misses = old.0.misses; drawn_below = old.0.drawn_below; finished = b; claimed = []; log = old.0.log ++ map (λ z. (z.0, z.1, y)) t }, [])) (ap (λ (v : Progress T). v.claimed) (sym same) ∙ h.0) in
       one ∙ two

@@ -17,26 +17,26 @@ Entry T = ℕ × T × T
 module _ {T : Type 0} where
   -- the progress of this many workers before any step, over the items start
   abbrev pub fresh : List T → ℕ → Progress T
-  fresh start workers = record { start = start; workers = workers; past = 0; drawn_below = 0; over = false; taken = []; log = [] }
+  fresh start workers = record { start = start; workers = workers; misses = 0; drawn_below = 0; finished = false; claimed = []; log = [] }
 
   -- the progress of two seats that became one, neither of which has an item
   abbrev pub joined : Progress T → Progress T → Progress T
-  joined v w = record { start = v.start; workers = v.workers + w.workers; past = v.past + w.past; drawn_below = v.drawn_below; over = v.over; taken = []; log = w.log ++ v.log }
+  joined v w = record { start = v.start; workers = v.workers + w.workers; misses = v.misses + w.misses; drawn_below = v.drawn_below; finished = v.finished; claimed = []; log = w.log ++ v.log }
 
-  -- the progress once the number n was drawn and its item x taken
+  -- the progress once the number n was drawn and its item x claimed
   abbrev pub holding : Progress T → ℕ → T → Progress T
-  holding v n x = record { start = v.start; workers = v.workers; past = v.past; drawn_below = n + 1; over = v.over; taken = (n, x) ∷ []; log = v.log }
+  holding v n x = record { start = v.start; workers = v.workers; misses = v.misses; drawn_below = n + 1; finished = v.finished; claimed = (n, x) ∷ []; log = v.log }
 
   -- the progress after the draw of a number that no item has
   abbrev pub passed : Progress T → ℕ → Progress T
-  passed v n = record { start = v.start; workers = v.workers; past = v.past + 1; drawn_below = n + 1; over = true; taken = v.taken; log = v.log }
+  passed v n = record { start = v.start; workers = v.workers; misses = v.misses + 1; drawn_below = n + 1; finished = true; claimed = v.claimed; log = v.log }
 
-  -- the progress once an item is put back, and over is whether the flag was seen
+  -- the progress once an item is put back, and finished is whether the flag was seen
   abbrev pub settled : Progress T → Bool → List (ℕ × T) → Progress T
-  settled v over [] = record { start = v.start; workers = v.workers; past = v.past; drawn_below = v.drawn_below; over = over; taken = v.taken; log = v.log }
-  settled v over (c ∷ cs) = record { start = v.start; workers = v.workers; past = v.past; drawn_below = v.drawn_below; over = over; taken = []; log = v.log ++ map (λ t. (t.0, t.1, c.1)) v.taken }
+  settled v finished [] = record { start = v.start; workers = v.workers; misses = v.misses; drawn_below = v.drawn_below; finished = finished; claimed = v.claimed; log = v.log }
+  settled v finished (c ∷ cs) = record { start = v.start; workers = v.workers; misses = v.misses; drawn_below = v.drawn_below; finished = finished; claimed = []; log = v.log ++ map (λ t. (t.0, t.1, c.1)) v.claimed }
 
-  -- a draw takes the item of its number, if there is one
+  -- a draw claims the item of its number, if there is one
   abbrev pub Drew : Step T → Me T (Progress T) → ℕ → Me T (Progress T) → Type 0
   Drew st v n w =
       (v.0.drawn_below ≤ n) × (n < st.slots → (x : T) × (get_elem? v.0.start n ≡ some x) × (w ≡ (holding v.0 n x, (n, x) ∷ v.1))) × (st.slots ≤ n → w ≡ (passed v.0 n, v.1))
@@ -51,16 +51,16 @@ module _ {T : Type 0} where
 
   -- the sum of f over the numbers of items that were drawn
   abbrev pub drawn : (ℕ → ℕ) → Progress T → ℕ
-  drawn f v = sum_of (λ p. f p.0) v.log + sum_of (λ t. f t.0) v.taken
+  drawn f v = sum_of (λ p. f p.0) v.log + sum_of (λ t. f t.0) v.claimed
 
   -- what the rule says of the progress of one seat, j, where n is the counter and homes the slots
   pub record ProgressFits (xs : List T) (owner : ℕ → ℕ) (n flag : ℕ) (homes : List (Option T)) (j : ℕ) (v : Progress T) : Type 0 where
-    pub past : v.past ≤ v.workers
+    pub misses : v.misses ≤ v.workers
     pub start : 0 < v.workers → v.start ≡ xs
-    pub idle : v.workers ≡ 0 → (v.taken ≡ []) × (v.log ≡ [])
+    pub idle : v.workers ≡ 0 → (v.claimed ≡ []) × (v.log ≡ [])
     pub drawn_below : v.drawn_below ≤ n
-    pub over : v.over ≡ true → (length xs ≤ n) ⊎ (0 < flag)
-    pub out : (i : ℕ) (t : ℕ × T) → get_elem? v.taken i ≡ some t
+    pub finished : v.finished ≡ true → (length xs ≤ n) ⊎ (0 < flag)
+    pub out : (i : ℕ) (t : ℕ × T) → get_elem? v.claimed i ≡ some t
         → (owner t.0 ≡ j) × (t.0 < n) × (get_elem? homes t.0 ≡ some none) × (get_elem? xs t.0 ≡ some t.1)
     pub back : (i : ℕ) (p : Entry T) → get_elem? v.log i ≡ some p
         → (p.0 < n) × (get_elem? homes p.0 ≡ some (some p.2)) × (get_elem? xs p.0 ≡ some p.1)
@@ -71,7 +71,7 @@ module _ {T : Type 0} where
 
   -- the seat j has the item k
   abbrev pub IsOut : List (Progress T) → ℕ → ℕ → Type 0
-  IsOut views j k = (v : Progress T) × (get_elem? views j ≡ some v) × (i : ℕ) × (t : ℕ × T) × (get_elem? v.taken i ≡ some t) × (t.0 ≡ k)
+  IsOut views j k = (v : Progress T) × (get_elem? views j ≡ some v) × (i : ℕ) × (t : ℕ × T) × (get_elem? v.claimed i ≡ some t) × (t.0 ≡ k)
 
   -- The counter's rule, true between any two steps: xs are the items before any work, n is the counter, and owner says who drew a number.
   pub record CounterInvariant (fails : T → Bool) (xs : List T) (workers : ℕ) (s : State T (Progress T)) : Type 0 where
@@ -83,7 +83,7 @@ module _ {T : Type 0} where
     pub sized : length s.homes ≡ length xs
     pub small : length xs + workers < 2 ^ 64
     pub workers_are : sum_of (λ v. v.workers) s.views ≡ workers
-    pub bound : n ≤ length xs + sum_of (λ v. v.past) s.views
+    pub bound : n ≤ length xs + sum_of (λ v. v.misses) s.views
     pub counted : (f : ℕ → ℕ) → sum_of (drawn f) s.views ≡ sum_below f (min n (length xs))
     pub untouched : (k : ℕ) (x : T) → n ≤ k → get_elem? xs k ≡ some x → get_elem? s.homes k ≡ some (some x)
     pub lent : (k : ℕ) → get_elem? s.homes k ≡ some none → IsOut s.views (owner k) k
@@ -101,9 +101,9 @@ module _ {T : Type 0} where
     pub left : (k : ℕ) (x : T) → n ≤ k → get_elem? xs k ≡ some x → get_elem? ys k ≡ some x
     pub stop : n < length xs → (k : ℕ) × (y : T) × (k < n) × (get_elem? ys k ≡ some y) × (fails y ≡ true)
 
-  -- the item k is out with a seat, with y in its slot, and was x when it was taken
+  -- the item k is out with a seat, with y in its slot, and was x when it was claimed
   abbrev pub Holds : ℕ → Me T (Progress T) → T → T → Type 0
-  Holds k me x y = (me.0.taken ≡ (k, x) ∷ []) × (me.1 ≡ (k, y) ∷ [])
+  Holds k me x y = (me.0.claimed ≡ (k, x) ∷ []) × (me.1 ≡ (k, y) ∷ [])
 
   -- a seat that has not begun, with this many parts; each item may be worked on
   pub record Starts (may : ℕ → T → Type 0) (workers : ℕ) (me : Me T (Progress T)) : Type 0 where
@@ -111,9 +111,9 @@ module _ {T : Type 0} where
     pub none_out : me.1 ≡ []
     pub can : (k : ℕ) (x : T) → get_elem? me.0.start k ≡ some x → may k x
 
-  -- the progress once the item k was taken as x and put back as y
-  abbrev pub served : Progress T → ℕ → T → T → Bool → Progress T
-  served v k x y over = record { start = v.start; workers = v.workers; past = v.past; drawn_below = v.drawn_below; over = over; taken = []; log = v.log ++ (k, x, y) ∷ [] }
+  -- the progress once the item k was claimed as x and put back as y
+  abbrev pub processed : Progress T → ℕ → T → T → Bool → Progress T
+  processed v k x y finished = record { start = v.start; workers = v.workers; misses = v.misses; drawn_below = v.drawn_below; finished = finished; claimed = []; log = v.log ++ (k, x, y) ∷ [] }
 
   -- an item that failed is the last of its worker
   abbrev pub LastFails : (T → Bool) → List (Entry T) → Type 0
@@ -141,14 +141,14 @@ module _ {T H : Type 0} (does : ℕ → T → H → T → H → Type 0) where
   Worked fails k me me' d e bad = (me'.0 ≡ me.0) × (x : T) × (y : T) × Holds k me' x y × does k x d y e × (bad ≡ fails y)
 
   -- the item k was worked on once, and is back
-  abbrev pub Served : (T → Bool) → ℕ → Me T (Progress T) → Me T (Progress T) → H → H → Bool → Type 0
-  Served fails k me me' d e over = (x : T) × (y : T) × does k x d y e × (me' ≡ (served me.0 k x y over, [])) × (fails y ≡ true → over ≡ true)
+  abbrev pub Processed : (T → Bool) → ℕ → Me T (Progress T) → Me T (Progress T) → H → H → Bool → Type 0
+  Processed fails k me me' d e finished = (x : T) × (y : T) × does k x d y e × (me' ≡ (processed me.0 k x y finished, [])) × (fails y ≡ true → finished ≡ true)
 
   -- a worker that is done, with no item: what it logged is what its hand did
   pub record IsDone (fails : T → Bool) (workers : ℕ) (me : Me T (Progress T)) (d e : H) : Type 0 where
     pub workers_are : me.0.workers ≡ workers
-    pub is_over : me.0.over ≡ true
-    pub none_taken : me.0.taken ≡ []
+    pub is_finished : me.0.finished ≡ true
+    pub none_claimed : me.0.claimed ≡ []
     pub none_out : me.1 ≡ []
     pub did : Did me.0.log d e
     pub last : LastFails fails me.0.log
@@ -156,8 +156,8 @@ module _ {T H : Type 0} (does : ℕ → T → H → T → H → Type 0) where
   -- the workers of these hands are done
   pub record AreDone (fails : T → Bool) (workers : ℕ) (me : Me T (Progress T)) (ds es : List H) : Type 0 where
     pub workers_are : me.0.workers ≡ workers
-    pub is_over : me.0.over ≡ true
-    pub none_taken : me.0.taken ≡ []
+    pub is_finished : me.0.finished ≡ true
+    pub none_claimed : me.0.claimed ≡ []
     pub none_out : me.1 ≡ []
     pub logs : List (List (Entry T))
     pub log_is : me.0.log ≡ joined_all logs

@@ -13,13 +13,13 @@ pub struct Progress<T> {
     /// How many workers it stands for: all of them at first, one once they are split.
     pub workers: u64,
     /// How many numbers it drew that no item has.
-    pub past: u64,
+    pub misses: u64,
     /// One more than the last number that it drew, or 0.
     pub drawn_below: u64,
     /// It is known that all numbers are drawn, or that the flag is set.
-    pub over: bool,
-    /// The item that is taken, as it was then, with its number.
-    pub taken: LinkedList<(u64, T)>,
+    pub finished: bool,
+    /// The item that is claimed, as it was then, with its number.
+    pub claimed: LinkedList<(u64, T)>,
     /// The items that were put back: number, before, after.
     pub log: LinkedList<(u64, T, T)>,
 }
@@ -44,7 +44,7 @@ impl<T, H, W: Task<T, H>> TableRule<T, Progress<T>, TableKey<T>> for CounterRule
     ghost first = { λ key. fresh key.items.value.items key.workers };
 }
 
-/// The step that adds 1 to the counter, and takes the item of the number that was there.
+/// The step that adds 1 to the counter, and claims the item of the number that was there.
 pub struct DrawNumber;
 
 impl<T> Play<T, Progress<T>> for DrawNumber {
@@ -53,7 +53,7 @@ impl<T> Play<T, Progress<T>> for DrawNumber {
     ghost then = { Drew };
 }
 
-/// The step that loads the flag, and puts back the item that is taken, if any.
+/// The step that loads the flag, and puts back the item that is claimed, if any.
 pub struct LoadFlag;
 
 impl<T> Play<T, Progress<T>> for LoadFlag {

@@ -2,7 +2,7 @@
 ghost use Rattle.std.specs.Prelude.{◌≡◌, ◌<◌, [], ◌∷◌, length, true};
 ghost use mathlib.Core.Option.{none};
 ghost use Rattle.atomic_table.specs.Table.{step};
-ghost use Rattle.claim_crew.specs.Rule.{Drew, Looked, Stopped, Holds, Worked, Served, IsDone, Starts};
+ghost use Rattle.claim_crew.specs.Rule.{Drew, Looked, Stopped, Holds, Worked, Processed, IsDone, Starts};
 
 use crate::rule::{CounterRule, DrawNumber, LoadFlag, Progress, SetFlag, TableKey};
 use crate::task::Task;
@@ -14,18 +14,18 @@ pub(crate) type SharedTable<T, H, W> = Shared<T, Progress<T>, TableKey<T>, Count
 // The seat with which a worker steps.
 pub(crate) type WorkerSeat<T> = Seat<T, Progress<T>>;
 
-// Draws the next number, and takes the item of that number in the same step, where there is one.
+// Draws the next number, and claims the item of that number in the same step, where there is one.
 fn draw<T, H, W: Task<T, H>>(table: &SharedTable<T, H, W>, seat: &mut WorkerSeat<T>) -> u64
     requires id { (seat.old.table_id ≡ table.now.table_id) × (table.now.table_id.words ≡ 2) }
     requires slots { length table.now.key.items.value.items ≡ table.now.table_id.slots }
-    requires free { (seat.old.me.0.taken ≡ []) × (seat.old.me.0.past < seat.old.me.0.workers) }
+    requires free { (seat.old.me.0.claimed ≡ []) × (seat.old.me.0.misses < seat.old.me.0.workers) }
     ensures id { (seat.new.table_id ≡ seat.old.table_id) × (seat.new.id ≡ seat.old.id) }
     ensures drew { Drew (step table.now.table_id.slots 0 1 0 none) seat.old.me result seat.new.me }
 {
     table.fetch_add::<DrawNumber>(seat, 0, 1)
 }
 
-// Works on the item that is taken, and says whether it failed.
+// Works on the item that is claimed, and says whether it failed.
 fn work_at<T, H, W: Task<T, H>>(
     table: &SharedTable<T, H, W>,
     seat: &mut WorkerSeat<T>,
@@ -80,8 +80,8 @@ fn load_flag<T, H, W: Task<T, H>>(table: &SharedTable<T, H, W>, seat: &mut Worke
     table.load::<LoadFlag>(seat, 1)
 }
 
-// Works on the item that is taken and puts it back, and says whether the worker is to draw no more.
-fn serve<T, H, W: Task<T, H>>(
+// Works on the item that is claimed and puts it back, and says whether the worker is to draw no more.
+fn process<T, H, W: Task<T, H>>(
     table: &SharedTable<T, H, W>,
     seat: &mut WorkerSeat<T>,
     at: usize,
@@ -91,7 +91,7 @@ fn serve<T, H, W: Task<T, H>>(
     requires id { (seat.old.table_id ≡ table.now.table_id) × (table.now.table_id.words ≡ 2) }
     requires held { (x : _) × Holds at seat.old.me x x × W.may task.now at x }
     ensures id { (seat.new.table_id ≡ seat.old.table_id) × (seat.new.id ≡ seat.old.id) }
-    ensures served { Served (W.does task.now) W.fails at seat.old.me seat.new.me hand.old hand.new result }
+    ensures processed { Processed (W.does task.now) W.fails at seat.old.me seat.new.me hand.old hand.new result }
 {
     if work_at(table, seat, at, task, hand) {
         put_back_failed(table, seat, at);
@@ -124,7 +124,7 @@ pub(crate) fn work<T, H, W: Task<T, H>>(
             return;
         }
         let at = number as usize;
-        if serve(table, seat, at, task, hand) {
+        if process(table, seat, at, task, hand) {
             return;
         }
         next = at + 1;

@@ -1,7 +1,7 @@
 use Rattle.std.proofs.Common.{◌≡◌, [], ◌∷◌, length, List, sym, ap, subst, arith}
 use Rattle.atomic_table.specs.Table.{opening}
 use Rattle.claim_crew.specs.Rule.{CounterInvariant, fresh}
-use Rattle.claim_crew.proofs.StepLemmas.{begins}
+use Rattle.claim_crew.proofs.SeatLemmas.{begins}
 use Rattle.claim_crew.proofs.ClaimedLemmas.{begun}
 use Rattle.claim_crew.proofs.claims.claim_all.Goals as goal
 

@@ -1,7 +1,7 @@
 use Rattle.std.proofs.Common.{◌≡◌, ℕ, ◌+◌, ◌<◌, length, sym, ◌∙◌, subst, arith, get_or}
 use Rattle.claim_crew.specs.Rule.{IsDone}
 use Rattle.claim_crew.proofs.LogLemmas.{alone, together}
-use Rattle.claim_crew.proofs.StepLemmas.{cuts, merges}
+use Rattle.claim_crew.proofs.SeatLemmas.{cuts, merges}
 use Rattle.claim_crew.proofs.crew.+workers.Goals as goal
 
 pub work_all-returns-then-hands-eq1-clause-done : goal.work_all-returns-then-hands-eq1-clause-done
@@ -18,7 +18,7 @@ work_all-join_seat-requires g t c =
     let b = c.work_both.ensures in
     let p = c.split_at_mut-first.ensures in
     let some_part : 0 < c.work_both.new.seat.me.0.workers = omega (arith, b.others.workers_are, p.front_len, p.back_len, c.requires.workers, c.if-hands-eq1.false) in
-    (b.seat_id.0 ∙ (s.0 ∙ r.id), b.mine_id ∙ (s.3 ∙ r.id), b.first.none_out, omega (arith, r.words), merges g.W.Task.fails _ _ _ _ _ _ b.others.none_taken b.first.none_taken some_part)
+    (b.seat_id.0 ∙ (s.0 ∙ r.id), b.mine_id ∙ (s.3 ∙ r.id), b.first.none_out, omega (arith, r.words), merges g.W.Task.fails _ _ _ _ _ _ b.others.none_claimed b.first.none_claimed some_part)
 
 pub work_all-returns-clause-done : goal.work_all-returns-clause-done
 work_all-returns-clause-done g t c =

@@ -10,8 +10,8 @@ invariant-loop-count g l = record {
   next_in : l.next ≤ l.count;
   drawn_below : l.seat.me.0.drawn_below ≡ l.next;
   workers : l.seat.me.0.workers ≡ 1;
-  past : l.seat.me.0.past ≡ 0;
-  free : l.seat.me.0.taken ≡ [];
+  misses : l.seat.me.0.misses ≡ 0;
+  free : l.seat.me.0.claimed ≡ [];
   none_out : l.seat.me.1 ≡ [];
   did : Did (g.W.Task.does l.task) l.seat.me.0.log l.fn.hand l.hand;
   going : NoneFailed g.W.Task.fails l.seat.me.0.log;
