@@ -3,7 +3,7 @@ use Rattle.std.proofs.Common.{◌≡◌, ℕ, zero, suc, ◌+◌, ◌-◌, ◌<�
 use Rattle.std.specs.Prelude.{◌==◌}
 use Rattle.std.specs.List.{prefix_len}
 use Rattle.std.proofs.lemmas.Bool.{eqb-true, both_ways}
-use Rattle.std.proofs.lemmas.List.{nil_from_length, take-append-drop, length-append, drop_at, length-drop, take-append-le}
+use Rattle.std.proofs.lemmas.List.{nil_from_length, take-append-drop, length-append, length-drop, take-append-le}
 use Rattle.std.proofs.lemmas.List.Sums.{prefix_len-le-length}
 use Rattle.read_base.specs.Reads.{◌>>=◌, Or, Read, skip, is_at, mark_at, run_at, more, all_at}
 use Rattle.read_base.specs.Laws.{Settling, Twin, Shrinks, Within, Moved, Local}
@@ -72,11 +72,11 @@ pub skip_local : {K A : Type 0} (S : Settling K) (item : List ℕ → Result (A 
 skip_local S item none law = record {
   shrinks = λ t. let gap = gap_parts t in shrink_more S gap.0 (skip t) t (item (skip t)) gap.2 (law.shrinks (skip t));
   moves = λ s c d w h.
-    let k = twin_skip S c d none w in
-    let ec = skip_append s c k.0 in
-    let ed = skip_append s d k.1 in
-    let m = law.moves (skip s) c d w (subst (λ (l : List ℕ). Within S c (item l)) ec h) in
-    subst (λ (l : List ℕ). Moved c d (item (skip (s ++ c))) (item l)) (sym ed) (subst (λ (l : List ℕ). Moved c d (item l) (item (skip s ++ d))) (sym ec) m);
+      let k = twin_skip S c d none w in
+      let ec = skip_append s c k.0 in
+      let ed = skip_append s d k.1 in
+      let m = law.moves (skip s) c d w (subst (λ (l : List ℕ). Within S c (item l)) ec h) in
+      subst (λ (l : List ℕ). Moved c d (item (skip (s ++ c))) (item l)) (sym ed) (subst (λ (l : List ℕ). Moved c d (item l) (item (skip s ++ d))) (sym ec) m);
 }
 
 -- ---- bytes that were looked at
@@ -224,10 +224,10 @@ pub run_local : {K : Type 0} (S : Settling K) (k : K) (p : ℕ → Bool) → Loc
 run_local S k p = record {
   shrinks = λ t. run_cut_shrinks S k (eqb (prefix_len p t) 0) (prefix_len p t) t;
   moves = λ s c d w h.
-    let n = prefix_len p (s ++ c) in
-    let short : n ≤ length s = run_short S k (eqb n 0) n s c refl (prefix_len-le-length p (s ++ c)) h in
-    let same : prefix_len p (s ++ d) ≡ n = run_same S p s c d w short in
-    subst (λ (m : ℕ). Moved c d (run_cut k (eqb n 0) n (s ++ c)) (run_cut k (eqb m 0) m (s ++ d))) (sym same) (run_moves k (eqb n 0) n s c d short);
+      let n = prefix_len p (s ++ c) in
+      let short : n ≤ length s = run_short S k (eqb n 0) n s c refl (prefix_len-le-length p (s ++ c)) h in
+      let same : prefix_len p (s ++ d) ≡ n = run_same S p s c d w short in
+      subst (λ (m : ℕ). Moved c d (run_cut k (eqb n 0) n (s ++ c)) (run_cut k (eqb m 0) m (s ++ d))) (sym same) (run_moves k (eqb n 0) n s c d short);
 }
 
 -- ---- items one after the other
@@ -237,8 +237,8 @@ unfolding more
 more_local S begins item near law zero = pure_local S []
 more_local S begins item near law (suc n) =
     cond_local S begins (λ t. item t >>= λ x. more begins item n x.1 >>= λ xs. Ok (x.0 ∷ xs.0, xs.1)) (λ t. Ok ([], t)) near
-      (then_local S item (λ x r. more begins item n r >>= λ xs. Ok (x ∷ xs.0, xs.1)) law (λ x. then_local S (more begins item n) (λ xs r. Ok (x ∷ xs, r)) (more_local S begins item near law n) (λ xs. pure_local S (x ∷ xs))))
-      (pure_local S [])
+    (then_local S item (λ x r. more begins item n r >>= λ xs. Ok (x ∷ xs.0, xs.1)) law (λ x. then_local S (more begins item n) (λ xs r. Ok (x ∷ xs, r)) (more_local S begins item near law n) (λ xs. pure_local S (x ∷ xs))))
+    (pure_local S [])
 
 abbrev put : {K A : Type 0} → A → Result (List A × List ℕ) (K × ℕ) → Result (List A × List ℕ) (K × ℕ)
 put x r = r >>= λ xs. Ok (x ∷ xs.0, xs.1)
@@ -269,16 +269,16 @@ more_fuel begins item none some zero m t hn hm = let e = nil_from_length t (omeg
 more_fuel begins item none some (suc n) zero t hn hm = let e = nil_from_length t (omega (arith, hm)) in ap (more begins item (suc n)) e ∙ none_at begins item (suc n) none ∙ sym (ap (more begins item zero) e ∙ none_at begins item zero none)
 more_fuel begins item none some (suc n) (suc m) t hn hm =
     fuel_cond (begins t) _ _ _ (λ here.
-      fuel_by (more begins item n) (more begins item m) t (item t) (λ p e.
-        more_fuel begins item none some n m p.1 (omega (arith, some t p here e, hn)) (omega (arith, some t p here e, hm))))
+    fuel_by (more begins item n) (more begins item m) t (item t) (λ p e.
+    more_fuel begins item none some n m p.1 (omega (arith, some t p here e, hn)) (omega (arith, some t p here e, hm))))
 
 pub all_local : {K A : Type 0} (S : Settling K) (begins : List ℕ → Bool) (item : List ℕ → Result (A × List ℕ) (K × ℕ)) → begins [] ≡ false → Takes_some begins item → Near S begins → Local S item → Local S (all_at begins item)
 all_local S begins item none some near law = record {
   shrinks = λ t. (more_local S begins item near law (length t)).shrinks t;
   moves = λ s c d w h.
-    let n = length (s ++ c) + length (s ++ d) in
-    let ec = more_fuel begins item none some (length (s ++ c)) n (s ++ c) (omega arith) (omega arith) in
-    let ed = more_fuel begins item none some (length (s ++ d)) n (s ++ d) (omega arith) (omega arith) in
-    let m = (more_local S begins item near law n).moves s c d w (subst (Within S c) ec h) in
-    subst (λ z. Moved c d z (more begins item (length (s ++ d)) (s ++ d))) (sym ec) (subst (λ z. Moved c d (more begins item n (s ++ c)) z) (sym ed) m);
+      let n = length (s ++ c) + length (s ++ d) in
+      let ec = more_fuel begins item none some (length (s ++ c)) n (s ++ c) (omega arith) (omega arith) in
+      let ed = more_fuel begins item none some (length (s ++ d)) n (s ++ d) (omega arith) (omega arith) in
+      let m = (more_local S begins item near law n).moves s c d w (subst (Within S c) ec h) in
+      subst (λ z. Moved c d z (more begins item (length (s ++ d)) (s ++ d))) (sym ec) (subst (λ z. Moved c d (more begins item n (s ++ c)) z) (sym ed) m);
 }

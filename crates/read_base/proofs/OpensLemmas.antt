@@ -1,5 +1,5 @@
 -- A refused text could have gone on up to the fault's place: the law of each way in which readers are made of readers.
-use Rattle.std.proofs.Common.{◌≡◌, ℕ, zero, suc, ◌-◌, Bool, true, false, cond, eqb, List, [], ◌∷◌, ◌++◌, length, take, drop, Result, Ok, Err, refl, sym, ap, subst, ◌∙◌, append_assoc, append-nil, arith, inl, inr}
+use Rattle.std.proofs.Common.{◌≡◌, ℕ, zero, suc, ◌-◌, Bool, true, eqb, List, [], ◌∷◌, ◌++◌, length, take, drop, Result, Ok, Err, refl, sym, ap, subst, append_assoc, append-nil, arith, inl, inr}
 use Rattle.std.specs.List.{prefix_len}
 use Rattle.std.proofs.lemmas.List.{take_at, length-append}
 use Rattle.read_base.specs.Reads.{◌>>=◌, placed, skip, is_at, mark_at, run_at, more, all_at}
@@ -37,19 +37,27 @@ unfolding more
 more_opens first begins item P spells opens zero t d e = absurd cc
 more_opens {K} {A} first begins item P spells opens (suc n) t d e = elim (chosen (begins t) _ _ _ e) [
   | inl h ↦
-    elim (bind_err (item t) (λ x. more begins item n x.1 >>= λ xs. Ok (x.0 ∷ xs.0, xs.1)) d h.1) [
-      | inl e1 ↦
-        let o = opens t d h.0 e1 in
-        record { front = o.front; behind = o.behind; rest = o.rest; value = (o.value, []); is = (o.front ++ o.behind, [], o.is, refl, sym (append-nil (o.front ++ o.behind))); parts = o.parts; len = o.len; solid = o.solid }
-      | inr a ↦ elim (bind_err (more begins item n a.0.1) (λ xs. Ok (a.0.0 ∷ xs.0, xs.1)) d a.2) [
+      elim (bind_err (item t) (λ x. more begins item n x.1 >>= λ xs. Ok (x.0 ∷ xs.0, xs.1)) d h.1) [
+        | inl e1 ↦
+            let o = opens t d h.0 e1 in
+            record { front = o.front; behind = o.behind; rest = o.rest; value = (o.value, []); is = (o.front ++ o.behind, [], o.is, refl, sym (append-nil (o.front ++ o.behind))); parts = o.parts; len = o.len; solid = o.solid }
+        | inr a ↦ elim (bind_err (more begins item n a.0.1) (λ xs. Ok (a.0.0 ∷ xs.0, xs.1)) d a.2) [
           | inl e2 ↦
-            let one = spells t a.0 h.0 a.1 in
-            let o = more_opens first begins item P spells opens n a.0.1 d e2 in
-            record { front = one.0 ++ o.front; behind = o.behind; rest = o.rest; value = (a.0.0, o.value.0 ∷ o.value.1);
-              is = (one.0, o.front ++ o.behind, one.1, o.is, append_assoc one.0 o.front o.behind); parts = two_parts t a.0.1 one.0 o.front o.rest one.2 o.parts; len = o.len; solid = o.solid }
+              let one = spells t a.0 h.0 a.1 in
+              let o = more_opens first begins item P spells opens n a.0.1 d e2 in
+              record {
+                front = one.0 ++ o.front;
+                behind = o.behind;
+                rest = o.rest;
+                value = (a.0.0, o.value.0 ∷ o.value.1);
+                is = (one.0, o.front ++ o.behind, one.1, o.is, append_assoc one.0 o.front o.behind);
+                parts = two_parts t a.0.1 one.0 o.front o.rest one.2 o.parts;
+                len = o.len;
+                solid = o.solid;
+              }
           | inr b ↦ absurd cc
         ]
-    ]
+      ]
   | inr h ↦ absurd cc
 ]
 
@@ -63,8 +71,16 @@ all_opens first begins item P spells opens t d e = more_opens first begins item 
 -- behind a text that was taken already
 pub opened_behind : {A B : Type 0} (first : ℕ → Bool) (P : List ℕ → A → Type 0) (Q : List ℕ → B → Type 0) (s t u : List ℕ) (left : ℕ) → t ≡ s ++ u → (f : A → B) → ((r : List ℕ) (x : A) → P r x → Q (s ++ r) (f x)) → Opened first P u left → Opened first Q t left
 opened_behind first P Q s t u left e f law o =
-    record { front = s ++ o.front; behind = o.behind; rest = o.rest; value = f o.value; is = subst (λ (l : List ℕ). Q l (f o.value)) (sym (append_assoc s o.front o.behind)) (law (o.front ++ o.behind) o.value o.is);
-      parts = two_parts t u s o.front o.rest e o.parts; len = o.len; solid = o.solid }
+    record {
+      front = s ++ o.front;
+      behind = o.behind;
+      rest = o.rest;
+      value = f o.value;
+      is = subst (λ (l : List ℕ). Q l (f o.value)) (sym (append_assoc s o.front o.behind)) (law (o.front ++ o.behind) o.value o.is);
+      parts = two_parts t u s o.front o.rest e o.parts;
+      len = o.len;
+      solid = o.solid;
+    }
 
 pub behind_opens : {K A : Type 0} (first : ℕ → Bool) (mark : ℕ) (item : List ℕ → Result (A × List ℕ) (K × ℕ)) (P : List ℕ → A → Type 0) → Opens first item P → OpensWhere first (is_at mark) (λ t. item (drop 1 t)) (Behind mark P)
 behind_opens first mark item P law t d h e = opened_behind first P (Behind mark P) (mark ∷ []) t (drop 1 t) d.1 (marked mark t h) (λ x. x) (λ r x is. (r, is, refl)) (law (drop 1 t) d e)
@@ -80,12 +96,12 @@ pub then_opens : {K A B : Type 0} (first : ℕ → Bool) (item : List ℕ → Re
     → Spells item P → Opens first item P → ((x : A) → Opens first (f x) (Q x)) → ((x : A) → (s : List ℕ) × (y : B) × Q x s y) → Opens first (λ t. item t >>= λ p. f p.0 p.1) (Then P Q)
 then_opens first item f P Q spells opens next sample t d e = elim (bind_err (item t) (λ x. f x.0 x.1) d e) [
   | inl e1 ↦
-    let o = opens t d e1 in
-    let s = sample o.value in
-    record { front = o.front; behind = o.behind ++ s.0; rest = o.rest; value = s.1; is = (o.front ++ o.behind, s.0, o.value, o.is, s.2, sym (append_assoc o.front o.behind s.0)); parts = o.parts; len = o.len; solid = o.solid }
+      let o = opens t d e1 in
+      let s = sample o.value in
+      record { front = o.front; behind = o.behind ++ s.0; rest = o.rest; value = s.1; is = (o.front ++ o.behind, s.0, o.value, o.is, s.2, sym (append_assoc o.front o.behind s.0)); parts = o.parts; len = o.len; solid = o.solid }
   | inr a ↦
-    let one = spells t a.0 a.1 in
-    opened_behind first (Q a.0.0) (Then P Q) one.0 t a.0.1 d.1 one.2 (λ y. y) (λ r y is. (one.0, r, a.0.0, one.1, is, refl)) (next a.0.0 a.0.1 d a.2)
+      let one = spells t a.0 a.1 in
+      opened_behind first (Q a.0.0) (Then P Q) one.0 t a.0.1 d.1 one.2 (λ y. y) (λ r y is. (one.0, r, a.0.0, one.1, is, refl)) (next a.0.0 a.0.1 d a.2)
 ]
 
 -- the bytes before the place of a fault

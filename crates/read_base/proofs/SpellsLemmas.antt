@@ -1,5 +1,5 @@
 -- What is taken is spelled so: the law of each way in which readers are made of readers.
-use Rattle.std.proofs.Common.{◌≡◌, ℕ, zero, suc, Bool, true, false, List, [], ◌∷◌, ◌++◌, length, drop, Result, Ok, Err, refl, sym, ap, subst, ◌∙◌, append_assoc, inl, inr}
+use Rattle.std.proofs.Common.{◌≡◌, ℕ, zero, suc, Bool, List, [], ◌∷◌, ◌++◌, length, drop, Result, Ok, refl, sym, ap, subst, ◌∙◌, append_assoc, inl, inr}
 use Rattle.read_base.specs.Reads.{◌>>=◌, skip, is_at, more, all_at}
 use Rattle.read_base.specs.Spelled.{Spaced, Behind, IsMore, Then}
 use Rattle.read_base.specs.Laws.{Takes, Spells, SpellsWhere}
@@ -14,11 +14,11 @@ unfolding more
 more_spells {K} {A} begins item P law zero t p e = subst (λ (q : List A × List ℕ). Takes (IsMore P) t q) (ok_is {K = K} ([], t) p e) ([], refl, refl)
 more_spells {K} {A} begins item P law (suc n) t p e = elim (chosen (begins t) _ _ _ e) [
   | inl h ↦
-    let a = bind_ok (item t) (λ x. more begins item n x.1 >>= λ xs. Ok (x.0 ∷ xs.0, xs.1)) p h.1 in
-    let b = bind_ok (more begins item n a.0.1) (λ xs. Ok (a.0.0 ∷ xs.0, xs.1)) p a.2 in
-    let one = law t a.0 h.0 a.1 in
-    let others = more_spells begins item P law n a.0.1 b.0 b.1 in
-    subst (λ (q : List A × List ℕ). Takes (IsMore P) t q) (ok_is {K = K} (a.0.0 ∷ b.0.0, b.0.1) p b.2)
+      let a = bind_ok (item t) (λ x. more begins item n x.1 >>= λ xs. Ok (x.0 ∷ xs.0, xs.1)) p h.1 in
+      let b = bind_ok (more begins item n a.0.1) (λ xs. Ok (a.0.0 ∷ xs.0, xs.1)) p a.2 in
+      let one = law t a.0 h.0 a.1 in
+      let others = more_spells begins item P law n a.0.1 b.0 b.1 in
+      subst (λ (q : List A × List ℕ). Takes (IsMore P) t q) (ok_is {K = K} (a.0.0 ∷ b.0.0, b.0.1) p b.2)
       (one.0 ++ others.0, (one.0, others.0, one.1, others.1, refl), two_parts t a.0.1 one.0 others.0 b.0.1 one.2 others.2)
   | inr h ↦ subst (λ (q : List A × List ℕ). Takes (IsMore P) t q) (ok_is {K = K} ([], t) p h.1) ([], refl, refl)
 ]

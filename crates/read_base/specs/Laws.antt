@@ -1,7 +1,6 @@
 -- What a reader may promise: what it takes is spelled so, what is spelled so is taken, a refused text could have gone on up to the
 -- fault's place, and a fault stays whatever stands behind its first bytes. P is how a value is spelled.
 use Rattle.std.specs.Prelude.{◌≡◌, ℕ, ◌+◌, ◌-◌, ◌≤◌, List, [], ◌∷◌, ◌++◌, length, Bool, true, Result, Ok, Err}
-use Rattle.read_base.specs.Reads.{Read}
 
 -- the text begins with what is spelled so, and the rest stands behind it
 abbrev pub Takes : {A : Type 0} → (List ℕ → A → Type 0) → List ℕ → A × List ℕ → Type 0
