@@ -2,3 +2,5 @@ pub mod Fields
 pub mod Formats
 pub mod Item
 pub mod Items
+pub mod Sums
+pub mod View

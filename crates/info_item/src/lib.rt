@@ -7,15 +7,25 @@ mod formats;
 mod item;
 mod item_fault;
 mod keys;
+mod lazy;
 mod line;
+mod merged;
 mod protocol;
 mod reader;
+mod sums;
+mod values;
+mod whole;
 
 pub use combo::Combo;
 pub use format::Format;
 pub use item::Item;
 pub use item_fault::ItemFault;
+pub use lazy::View;
 pub use reader::read_items;
+pub use values::Values;
+pub use whole::view;
 
 #[cfg(test)]
 mod tests;
+#[cfg(test)]
+mod view_tests;
