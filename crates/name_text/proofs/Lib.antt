@@ -1,0 +1,5 @@
+pub mod CutLemmas
+pub mod MarkLemmas
+pub mod PathLemmas
+pub mod SuffixLemmas
+pub mod WrittenLemmas
