@@ -36,7 +36,12 @@ fn listed(alloc: Global, folder: &mut FolderMem) -> Result<String, Fail>
     Ok(listed)
 }
 
-fn pour_standing(folder: &mut FolderMem, from: &str, to: &str, buffer: &mut [u8]) -> Result<(), Fail>
+fn pour_standing(
+    folder: &mut FolderMem,
+    from: &str,
+    to: &str,
+    buffer: &mut [u8],
+) -> Result<(), Fail>
     requires whole { IsWhole (world_of folder.old) }
     requires apart { bytes_eq to.now from.now ≡ false }
     requires room { 0 < length buffer.old }
@@ -62,9 +67,15 @@ fn files_are_compared_and_copied_through_a_small_buffer(rt: HostRuntime) -> Resu
         let mut folder = folder_of(alloc, &[("a", "seven b"), ("b", "to ")])?;
         let held = holds(&mut folder, "a", bytes.as_bytes(), &mut buffer);
         assert_eq!(rt; held, Ok(wanted), "{bytes}");
-        assert_eq!(rt; holds(&mut folder, "c", bytes.as_bytes(), &mut buffer), Ok(false));
+        assert_eq!(rt;
+            holds(&mut folder, "c", bytes.as_bytes(), &mut buffer),
+            Ok(false)
+        );
         pour_standing(&mut folder, "a", "b", &mut buffer)?;
-        assert_eq!(rt; listed(alloc, &mut folder)?.as_str(), "a=seven b b=to seven b ");
+        assert_eq!(rt;
+            listed(alloc, &mut folder)?.as_str(),
+            "a=seven b b=to seven b "
+        );
     }
     Ok(())
 }
@@ -72,7 +83,16 @@ fn files_are_compared_and_copied_through_a_small_buffer(rt: HostRuntime) -> Resu
 #[test]
 fn names_are_removed_and_a_file_is_replaced(rt: HostRuntime) -> Result<(), Fail> {
     let alloc = rt.alloc();
-    let mut folder = folder_of(alloc, &[("a", "old"), ("a.1", "x"), ("a.10", "y"), ("a.new", "z"), ("b", "")])?;
+    let mut folder = folder_of(
+        alloc,
+        &[
+            ("a", "old"),
+            ("a.1", "x"),
+            ("a.10", "y"),
+            ("a.new", "z"),
+            ("b", ""),
+        ],
+    )?;
     sweep(alloc, &mut folder, "a.1")?;
     assert_eq!(rt; drop_name(&mut folder, "b"), Ok(true));
     assert_eq!(rt; drop_name(&mut folder, "b"), Ok(false));

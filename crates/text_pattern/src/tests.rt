@@ -8,6 +8,11 @@ fn patterns(rt: HostRuntime) -> Result<(), Fail> {
     assert!(rt; finder.finds("abcb"));
     assert!(rt; !finder.finds("xabc"));
     assert_eq!(rt; pattern.as_str(), "^a[bc]+$");
-    assert!(rt; matches!(Pattern::new(rt.alloc(), "a("), Err(PatternFault::NotPattern)));
+    assert!(rt;
+        matches!(
+            Pattern::new(rt.alloc(), "a("),
+            Err(PatternFault::NotPattern)
+        )
+    );
     Ok(())
 }

@@ -17,7 +17,7 @@ returns-then-is_empty-clause-told g c t =
     let t0 = c.read_some.ensures.looked.stays.tells t in
     let cur = (g.F.Folder.world c.loop-at.folder).story in
     let long : option_map (λ (file : File). length (content file)) (cur.now.live c.args.name.now) ≡ Some (length c.args.bytes.now) =
-        subst (λ (s : Story). option_map (λ (file : File). length (content file)) (s.now.live c.args.name.now) ≡ Some (length c.args.bytes.now)) (sym (c.loop-at.invariant.looked.same t0)) (c.requires.as_long (c.loop-at.invariant.looked.stays.tells t0)) in
+    subst (λ (s : Story). option_map (λ (file : File). length (content file)) (s.now.live c.args.name.now) ≡ Some (length c.args.bytes.now)) (sym (c.loop-at.invariant.looked.same t0)) (c.requires.as_long (c.loop-at.invariant.looked.stays.tells t0)) in
     absurd (more_there (cur.now.live c.args.name.now) c.in_ok-piece.piece.now c.loop-at.at (length c.args.bytes.now) long c.loop-at-test.true (none_there (length c.in_ok-piece.piece.now) (c.if-is_empty.ensures)) (c.in_ok-piece.ensures.told t))
 
 pub returns-then-not-starts_with-clause-told : goal.returns-then-not-starts_with-clause-told

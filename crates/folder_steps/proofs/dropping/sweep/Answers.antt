@@ -41,9 +41,9 @@ pub loop-name-preserved : goal.loop-name-preserved
 loop-name-preserved g c =
     let item = item_is c.deref-name-items.result.now c.loop-name.name-index c.name-item.result c.as_str.result.now (omega arith) c.name-item.is c.as_str.ensures in
     let lists = λ (t1 : IsTrue (g.F.Folder.world c.loop-name.folder).tells).
-        subst (λ (l : List Name). Lists c.args.prefix.now (g.F.Folder.world c.args.folder.now).story.now.live l) (sym c.deref-name-items.ensures.value) (c.in-Ok.ensures.told (c.names.ensures.cause.still_tells (c.loop-name.invariant.kept.tells t1))) in
+    subst (λ (l : List Name). Lists c.args.prefix.now (g.F.Folder.world c.args.folder.now).story.now.live l) (sym c.deref-name-items.ensures.value) (c.in-Ok.ensures.told (c.names.ensures.cause.still_tells (c.loop-name.invariant.kept.tells t1))) in
     let may = λ (t1 : IsTrue (g.F.Folder.world c.loop-name.folder).tells).
-        item_begins c.args.prefix.now c.as_str.result.now _ c.deref-name-items.result.now c.loop-name.name-index (lists t1) (omega arith) item in
+    item_begins c.args.prefix.now c.as_str.result.now _ c.deref-name-items.result.now c.loop-name.name-index (lists t1) (omega arith) item in
     record {
       kept = stays_both c.loop-name.invariant.kept c.drop_standing.ensures.kept;
       moments = λ t. let t1 = c.drop_standing.ensures.kept.tells t in
