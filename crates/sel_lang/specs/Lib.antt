@@ -1,2 +1,9 @@
+pub mod Filters
+pub mod Marks
+pub mod Names
+pub mod Places
 pub mod Plain
+pub mod Reading
+pub mod Refusals
+pub mod Spelled
 pub mod View
