@@ -290,9 +290,9 @@ num_value_solid s x r h = (solid_run is_value_byte s r refl h.0 h.1, h.0)
 num_rest_again : (field : NumField) (op : NumOp) → Again (num_rest field op) (IsNumRest field op) Any
 num_rest_again field op =
     then_again (marked_at num_value) (λ value. ended (num_made field op value)) (IsMarked (Spaced IsNumValue)) (λ value. IsEnd (num_made field op value)) (Ends is_value_byte) Any
-      (marked_again num_value (Spaced IsNumValue) (Ends is_value_byte) (spaced_some IsNumValue num_value_solid) num_value_again)
-      (λ value. ended_again (num_made field op value))
-      (λ value s y r h free. end_ends is_value_byte (num_made field op value) s y r refl refl h)
+    (marked_again num_value (Spaced IsNumValue) (Ends is_value_byte) (spaced_some IsNumValue num_value_solid) num_value_again)
+    (λ value. ended_again (num_made field op value))
+    (λ value s y r h free. end_ends is_value_byte (num_made field op value) s y r refl refl h)
 
 then_head : {A B : Type 0} (p : ℕ → Bool) (P : List ℕ → A → Type 0) (Q : A → List ℕ → B → Type 0) → ((s : List ℕ) (x : A) (r : List ℕ) → P s x → Ends p (s ++ r)) → (s : List ℕ) (y : B) (r : List ℕ) → Then P Q s y → Ends p (s ++ r)
 then_head p P Q head s y r h = subst (λ (l : List ℕ). Ends p (l ++ r)) (sym h.5) (subst (Ends p) (sym (append_assoc h.0 h.1 r)) (head h.0 h.2 (h.1 ++ r) h.3))
@@ -301,21 +301,21 @@ num_again : (field : NumField) → Again (num_filter_at field) (IsNumFilter fiel
 unfolding num_filter_at
 num_again field =
     then_again (λ t. num_op_at (skip t)) (num_rest field) (Spaced (λ s op. s ≡ num_op_text op)) (IsNumRest field) (Ends (λ b. b == 61)) Any
-      num_op_again (num_rest_again field)
-      (λ op s y r h free. then_head (λ b. b == 61) (IsMarked (Spaced IsNumValue)) (λ value. IsEnd (num_made field op value)) marked_head s y r h)
+    num_op_again (num_rest_again field)
+    (λ op s y r h free. then_head (λ b. b == 61) (IsMarked (Spaced IsNumValue)) (λ value. IsEnd (num_made field op value)) marked_head s y r h)
 
 text_rest_again : (field : TextField) (op : TextOp × Bool) → Again (text_rest field op) (IsTextRest field op) Any
 text_rest_again field op =
     then_again (marked_at (text_value op.0)) (λ value. ended (text_made field op value)) (IsMarked (Spaced (IsTextValue op.0))) (λ value. IsEnd (text_made field op value)) (Ends is_value_byte) Any
-      (marked_again (text_value op.0) (Spaced (IsTextValue op.0)) (Ends is_value_byte) (spaced_some (IsTextValue op.0) (text_value_solid op.0)) (tested_again op.0))
-      (λ value. ended_again (text_made field op value))
-      (λ value s y r h free. end_ends is_value_byte (text_made field op value) s y r refl refl h)
+    (marked_again (text_value op.0) (Spaced (IsTextValue op.0)) (Ends is_value_byte) (spaced_some (IsTextValue op.0) (text_value_solid op.0)) (tested_again op.0))
+    (λ value. ended_again (text_made field op value))
+    (λ value s y r h free. end_ends is_value_byte (text_made field op value) s y r refl refl h)
 
 text_again : (field : TextField) → Again (text_filter_at field) (IsTextFilter field) Any
 unfolding text_filter_at
 text_again field =
     then_again (λ t. text_op_at (skip t)) (text_rest field) (Spaced (λ s op. s ≡ text_op_text op)) (IsTextRest field) Any Any
-      text_op_again (text_rest_again field) (λ op s y r h free. tt)
+    text_op_again (text_rest_again field) (λ op s y r h free. tt)
 
 tail_again : (field : FieldName) → Again (tail_at field) (IsTail field) Any
 tail_again (names.Num field) = num_again field
@@ -347,10 +347,10 @@ spaced_head p P space head s x r h = gap_ends_in p s h.gap h.rest r h.is_gap h.p
 tail_head : (field : FieldName) (s : List ℕ) (y : PlainFilter) (r : List ℕ) → IsTail field s y → Ends is_field_byte (s ++ r)
 tail_head (names.Num field) s y r h =
     then_head is_field_byte (Spaced (λ s op. s ≡ num_op_text op)) (IsNumRest field)
-      (spaced_head is_field_byte (λ s op. s ≡ num_op_text op) refl (λ s op r k. subst (λ (l : List ℕ). Ends is_field_byte (l ++ r)) (sym k) (num_op_head op r))) s y r h
+    (spaced_head is_field_byte (λ s op. s ≡ num_op_text op) refl (λ s op r k. subst (λ (l : List ℕ). Ends is_field_byte (l ++ r)) (sym k) (num_op_head op r))) s y r h
 tail_head (names.Text field) s y r h =
     then_head is_field_byte (Spaced (λ s op. s ≡ text_op_text op)) (IsTextRest field)
-      (spaced_head is_field_byte (λ s op. s ≡ text_op_text op) refl (λ s op r k. subst (λ (l : List ℕ). Ends is_field_byte (l ++ r)) (sym k) (text_op_head op.0 op.1 r))) s y r h
+    (spaced_head is_field_byte (λ s op. s ≡ text_op_text op) refl (λ s op r k. subst (λ (l : List ℕ). Ends is_field_byte (l ++ r)) (sym k) (text_op_head op.0 op.1 r))) s y r h
 
 pub filter_again : Again filter_at IsFilter Any
 unfolding filter_at

@@ -65,17 +65,17 @@ unfolding num_op_at
 num_op_spells t p e = elim (chosen (is_at 60 t) _ _ _ e) [
   | inl h ↦ or_by (is_at 61 (drop 1 t)) 60 t nums.Le nums.Lt p h.0 refl refl refl h.1
   | inr h ↦ elim (chosen (is_at 62 t) _ _ _ h.1) [
-      | inl k ↦ or_by (is_at 61 (drop 1 t)) 62 t nums.Ge nums.Gt p k.0 refl refl refl k.1
-      | inr k ↦ elim (chosen (is_at 61 t) _ _ _ k.1) [
-          | inl m ↦ num_op_made t (codes "=") (drop 1 t) nums.Eq p refl (marked 61 t m.0) m.1
-          | inr m ↦ elim (chosen (is_at 33 t && is_at 61 (drop 1 t)) _ _ _ m.1) [
-              | inl n ↦
-                let two = both (is_at 33 t) (is_at 61 (drop 1 t)) n.0 in
-                num_op_made t (codes "!=") (drop 1 (drop 1 t)) nums.Ne p refl (marked 33 t two.0 ∙ ap (λ (l : List ℕ). 33 ∷ l) (marked 61 (drop 1 t) two.1)) n.1
-              | inr n ↦ absurd cc
-            ]
-        ]
+    | inl k ↦ or_by (is_at 61 (drop 1 t)) 62 t nums.Ge nums.Gt p k.0 refl refl refl k.1
+    | inr k ↦ elim (chosen (is_at 61 t) _ _ _ k.1) [
+      | inl m ↦ num_op_made t (codes "=") (drop 1 t) nums.Eq p refl (marked 61 t m.0) m.1
+      | inr m ↦ elim (chosen (is_at 33 t && is_at 61 (drop 1 t)) _ _ _ m.1) [
+        | inl n ↦
+            let two = both (is_at 33 t) (is_at 61 (drop 1 t)) n.0 in
+            num_op_made t (codes "!=") (drop 1 (drop 1 t)) nums.Ne p refl (marked 33 t two.0 ∙ ap (λ (l : List ℕ). 33 ∷ l) (marked 61 (drop 1 t) two.1)) n.1
+        | inr n ↦ absurd cc
+      ]
     ]
+  ]
 ]
 
 abbrev given : TextOp × List ℕ → Option (TextOp × List ℕ)
@@ -96,24 +96,24 @@ unfolding op_mark
 op_mark_is t q e = elim (chosen (is_at 94 t) _ _ _ e) [
   | inl h ↦ mark_made 94 t texts.Prefix q h.0 refl h.1
   | inr h ↦ elim (chosen (is_at 36 t) _ _ _ h.1) [
-      | inl k ↦ mark_made 36 t texts.Suffix q k.0 refl k.1
-      | inr k ↦ elim (chosen (is_at 42 t) _ _ _ k.1) [
-          | inl m ↦ mark_made 42 t texts.Contains q m.0 refl m.1
-          | inr m ↦ elim (chosen (is_at 126 t) _ _ _ m.1) [
-              | inl n ↦ mark_made 126 t texts.Matches q n.0 refl n.1
-              | inr n ↦ absurd cc
-            ]
-        ]
+    | inl k ↦ mark_made 36 t texts.Suffix q k.0 refl k.1
+    | inr k ↦ elim (chosen (is_at 42 t) _ _ _ k.1) [
+      | inl m ↦ mark_made 42 t texts.Contains q m.0 refl m.1
+      | inr m ↦ elim (chosen (is_at 126 t) _ _ _ m.1) [
+        | inl n ↦ mark_made 126 t texts.Matches q n.0 refl n.1
+        | inr n ↦ absurd cc
+      ]
     ]
+  ]
 ]
 
 with_equal_is : (t : List ℕ) (o : Option (TextOp × List ℕ)) (q : TextOp × List ℕ) → ((r : TextOp × List ℕ) → o ≡ Some r → HasMark t r) → with_equal o ≡ Some q → t ≡ plain_op_text q.0 ++ q.1
 with_equal_is t None q h e = absurd cc
 with_equal_is t (Some r) q h e = elim (chosen (is_at 61 r.1) _ _ _ e) [
   | inl k ↦
-    let m = h r refl in
-    let whole : t ≡ plain_op_text r.0 ++ drop 1 r.1 = m.1 ∙ ap (λ (l : List ℕ). m.0 ∷ l) (marked 61 r.1 k.0) ∙ ap (λ (l : List ℕ). l ++ drop 1 r.1) (sym m.2) in
-    subst (λ (z : TextOp × List ℕ). t ≡ plain_op_text z.0 ++ z.1) (given_is (r.0, drop 1 r.1) q k.1) whole
+      let m = h r refl in
+      let whole : t ≡ plain_op_text r.0 ++ drop 1 r.1 = m.1 ∙ ap (λ (l : List ℕ). m.0 ∷ l) (marked 61 r.1 k.0) ∙ ap (λ (l : List ℕ). l ++ drop 1 r.1) (sym m.2) in
+      subst (λ (z : TextOp × List ℕ). t ≡ plain_op_text z.0 ++ z.1) (given_is (r.0, drop 1 r.1) q k.1) whole
   | inr k ↦ absurd cc
 ]
 
@@ -193,24 +193,25 @@ unquoted_is : (quote : ℕ) (t : List ℕ) → ((x : List ℕ × List ℕ) → u
 unfolding unquoted
 unquoted_is quote [] = (λ x e. absurd cc, λ x e. absurd cc)
 unquoted_is quote (b ∷ t) =
-    let so = unquoted_is quote t in
-    (λ x e. elim (chosen (b == quote) _ _ _ e) [
-      | inl h ↦ subst (Bodied quote (b ∷ t)) (pair_is ([], t) x h.1) ([], refl, ap (λ (c : ℕ). c ∷ t) (eqb-true b quote h.0))
-      | inr h ↦ elim (chosen (b == 92) _ _ _ h.1) [
+    let so = unquoted_is quote t in (
+      λ x e. elim (chosen (b == quote) _ _ _ e) [
+        | inl h ↦ subst (Bodied quote (b ∷ t)) (pair_is ([], t) x h.1) ([], refl, ap (λ (c : ℕ). c ∷ t) (eqb-true b quote h.0))
+        | inr h ↦ elim (chosen (b == 92) _ _ _ h.1) [
           | inl k ↦
-            let n = so.1 x k.1 in
-            let is : IsBody quote (92 ∷ n.0 ∷ n.2) (n.0 ∷ n.1) = (n.2, n.4, inr refl) in
-            (92 ∷ n.0 ∷ n.2, subst (IsBody quote (92 ∷ n.0 ∷ n.2)) (sym n.3) is, ap (λ (c : ℕ). c ∷ t) (eqb-true b 92 k.0) ∙ ap (λ (l : List ℕ). 92 ∷ l) n.5)
+              let n = so.1 x k.1 in
+              let is : IsBody quote (92 ∷ n.0 ∷ n.2) (n.0 ∷ n.1) = (n.2, n.4, inr refl) in
+              (92 ∷ n.0 ∷ n.2, subst (IsBody quote (92 ∷ n.0 ∷ n.2)) (sym n.3) is, ap (λ (c : ℕ). c ∷ t) (eqb-true b 92 k.0) ∙ ap (λ (l : List ℕ). 92 ∷ l) n.5)
           | inr k ↦
-            let y = put_some b (unquoted quote false t) x k.1 in
-            let n = so.0 y.0 y.1 in
-            subst (Bodied quote (b ∷ t)) y.2 (b ∷ n.0, (n.0, n.1, inl (refl, h.0, k.0)), ap (λ (l : List ℕ). b ∷ l) n.2)
+              let y = put_some b (unquoted quote false t) x k.1 in
+              let n = so.0 y.0 y.1 in
+              subst (Bodied quote (b ∷ t)) y.2 (b ∷ n.0, (n.0, n.1, inl (refl, h.0, k.0)), ap (λ (l : List ℕ). b ∷ l) n.2)
         ]
-    ],
-    λ x e.
-      let y = put_some b (unquoted quote false t) x e in
-      let n = so.0 y.0 y.1 in
-      subst (Escaped quote (b ∷ t)) y.2 (b, y.0.0, n.0, refl, n.1, ap (λ (l : List ℕ). b ∷ l) n.2))
+      ],
+      λ x e.
+          let y = put_some b (unquoted quote false t) x e in
+          let n = so.0 y.0 y.1 in
+          subst (Escaped quote (b ∷ t)) y.2 (b, y.0.0, n.0, refl, n.1, ap (λ (l : List ℕ). b ∷ l) n.2),
+    )
 
 closed_quote_is : (quote : ℕ) (t u : List ℕ) (o : Option (List ℕ × List ℕ)) (p : List ℕ × List ℕ) → t ≡ quote ∷ u → ((x : List ℕ × List ℕ) → o ≡ Some x → Bodied quote u x)
     → closed_quote t o ≡ Ok p → Takes (IsQuoted quote) t p
@@ -230,11 +231,11 @@ unfolding text_value_at
 text_value_is t p e = elim (chosen (is_at 34 t) _ _ _ e) [
   | inl h ↦ inl (closed_quote_is 34 t (drop 1 t) (unquoted 34 false (drop 1 t)) p (marked 34 t h.0) ((unquoted_is 34 (drop 1 t)).0) h.1)
   | inr h ↦ elim (chosen (is_at 39 t) _ _ _ h.1) [
-      | inl k ↦ inr (inl (closed_quote_is 39 t (drop 1 t) (unquoted 39 false (drop 1 t)) p (marked 39 t k.0) ((unquoted_is 39 (drop 1 t)).0) k.1))
-      | inr k ↦
+    | inl k ↦ inr (inl (closed_quote_is 39 t (drop 1 t) (unquoted 39 false (drop 1 t)) p (marked 39 t k.0) ((unquoted_is 39 (drop 1 t)).0) k.1))
+    | inr k ↦
         let run = run_is Syntax is_value_byte t p k.1 in
         inr (inr (p.0, (refl, run.some, run.all), run.parts))
-    ]
+  ]
 ]
 
 pub tested_spells : (op : TextOp) → Spells (tested_at op) (IsTextValue op)
@@ -251,8 +252,8 @@ tested_spells op t p e =
 pub ended_spells : (x : PlainFilter) → Spells (ended x) (IsEnd x)
 ended_spells x t p e = elim (chosen (is_at 93 (skip t)) _ _ _ e) [
   | inl h ↦
-    let gap = gap_parts t in
-    subst (λ (q : PlainFilter × List ℕ). Takes (IsEnd x) t q) (read_is (x, drop 1 (skip t)) p h.1)
+      let gap = gap_parts t in
+      subst (λ (q : PlainFilter × List ℕ). Takes (IsEnd x) t q) (read_is (x, drop 1 (skip t)) p h.1)
       (gap.0 ++ 93 ∷ [], (gap.0, gap.1, refl, refl), gap.2 ∙ ap (λ (l : List ℕ). gap.0 ++ l) (marked 93 (skip t) h.0) ∙ sym (append_assoc gap.0 (93 ∷ []) (drop 1 (skip t))))
   | inr h ↦ absurd cc
 ]
@@ -261,17 +262,17 @@ num_spells : (field : NumField) → Spells (num_filter_at field) (IsNumFilter fi
 unfolding num_filter_at
 num_spells field =
     then_spells (λ t. num_op_at (skip t)) (num_rest field) (Spaced (λ s op. s ≡ num_op_text op)) (IsNumRest field)
-      (spaced_spells num_op_at (λ s op. s ≡ num_op_text op) num_op_spells)
-      (λ op. then_spells (marked_at num_value) (λ value. ended (num_made field op value)) (IsMarked (Spaced IsNumValue)) (λ value. IsEnd (num_made field op value))
-        (marked_spells num_value (Spaced IsNumValue) (spaced_spells num_value_at IsNumValue num_value_spells)) (λ value. ended_spells (num_made field op value)))
+    (spaced_spells num_op_at (λ s op. s ≡ num_op_text op) num_op_spells)
+    (λ op. then_spells (marked_at num_value) (λ value. ended (num_made field op value)) (IsMarked (Spaced IsNumValue)) (λ value. IsEnd (num_made field op value))
+    (marked_spells num_value (Spaced IsNumValue) (spaced_spells num_value_at IsNumValue num_value_spells)) (λ value. ended_spells (num_made field op value)))
 
 text_spells : (field : TextField) → Spells (text_filter_at field) (IsTextFilter field)
 unfolding text_filter_at
 text_spells field =
     then_spells (λ t. text_op_at (skip t)) (text_rest field) (Spaced (λ s op. s ≡ text_op_text op)) (IsTextRest field)
-      (spaced_spells text_op_at (λ s op. s ≡ text_op_text op) text_op_spells)
-      (λ op. then_spells (marked_at (text_value op.0)) (λ value. ended (text_made field op value)) (IsMarked (Spaced (IsTextValue op.0))) (λ value. IsEnd (text_made field op value))
-        (marked_spells (text_value op.0) (Spaced (IsTextValue op.0)) (spaced_spells (tested_at op.0) (IsTextValue op.0) (tested_spells op.0))) (λ value. ended_spells (text_made field op value)))
+    (spaced_spells text_op_at (λ s op. s ≡ text_op_text op) text_op_spells)
+    (λ op. then_spells (marked_at (text_value op.0)) (λ value. ended (text_made field op value)) (IsMarked (Spaced (IsTextValue op.0))) (λ value. IsEnd (text_made field op value))
+    (marked_spells (text_value op.0) (Spaced (IsTextValue op.0)) (spaced_spells (tested_at op.0) (IsTextValue op.0) (tested_spells op.0))) (λ value. ended_spells (text_made field op value)))
 
 tail_spells : (field : FieldName) → Spells (tail_at field) (IsTail field)
 tail_spells (names.Num field) = num_spells field

@@ -112,7 +112,7 @@ filters_again : (s : List ℕ) (fs : List PlainFilter) (r : List ℕ) → IsMore
 filters_again s fs r h free =
     let f = free_91 r free in
     all_again (is_next 91) (behind filter_at) (Spaced (Behind 91 IsFilter)) (Free no_token_at) (items 91 IsFilter no_token_at filters_mark)
-      (item_again 91 filter_at IsFilter (Free no_token_at) refl (λ s x r h k. filter_again s x r h tt)) s fs r h f.0 f.1
+    (item_again 91 filter_at IsFilter (Free no_token_at) refl (λ s x r h k. filter_again s x r h tt)) s fs r h f.0 f.1
 
 pub filtered_again : (y : Plain) → Again (filtered y) (IsFiltered y) (Free ends_atom)
 filtered_again y s x r h free = filtered_steps y (s ++ r) r h.0 (filters_again s h.0 r h.1 free) ∙ ap (λ (z : Plain). Ok (z, r)) (sym h.2)
@@ -189,16 +189,16 @@ atom_again group Spec again s x r h free =
     elim h.is [
       | inl k ↦ named_again group h.rest x r k free
       | inr k ↦ elim k [
-          | inl b ↦ best_again group h.rest x r b free
-          | inr g ↦ grouped_again group Spec again h.rest x r g free
-        ]
+        | inl b ↦ best_again group h.rest x r b free
+        | inr g ↦ grouped_again group Spec again h.rest x r g free
+      ]
     ]
 
 pub spec_again : (operand : List ℕ → Read SelKind Plain) (P : List ℕ → Plain → Type 0) → Again operand P (Free ends_atom) → Again (spec_over operand) (IsSpecOver P) (Free ends_comma)
 spec_again operand P again =
     joined_again Comma (joined_at Slash (joined_at Plus operand)) (IsJoined Slash (IsJoined Plus P)) ends_slash (record { no_name = refl; no_space = refl; other = refl })
-      (joined_again Slash (joined_at Plus operand) (IsJoined Plus P) ends_plus (record { no_name = refl; no_space = refl; other = refl })
-        (joined_again Plus operand P ends_atom (record { no_name = refl; no_space = refl; other = refl }) again))
+    (joined_again Slash (joined_at Plus operand) (IsJoined Plus P) ends_plus (record { no_name = refl; no_space = refl; other = refl })
+    (joined_again Plus operand P ends_atom (record { no_name = refl; no_space = refl; other = refl }) again))
 
 pub atom_at_again : (groups : ℕ) → Again (atom_at groups) (IsAtom groups) (Free ends_atom)
 unfolding atom_at

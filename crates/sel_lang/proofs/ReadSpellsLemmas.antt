@@ -49,7 +49,7 @@ joined_spells joint operand P law t p e =
     let one = law t a.0 a.1 in
     let others = all_spells (is_next (mark_of joint)) (behind operand) (Spaced (Behind (mark_of joint) P)) (item_spells (mark_of joint) operand P law) a.0.1 b.0 b.1 in
     subst (λ (q : Plain × List ℕ). Takes (IsJoined joint P) t q) (read_is (joined joint a.0.0 b.0.0, b.0.1) p b.2)
-      (one.0 ++ others.0, (one.0, others.0, a.0.0, b.0.0, one.1, others.1, refl, refl), one.2 ∙ ap (λ (l : List ℕ). one.0 ++ l) others.2 ∙ sym (append_assoc one.0 others.0 b.0.1))
+    (one.0 ++ others.0, (one.0, others.0, a.0.0, b.0.0, one.1, others.1, refl, refl), one.2 ∙ ap (λ (l : List ℕ). one.0 ++ l) others.2 ∙ sym (append_assoc one.0 others.0 b.0.1))
 
 group_joins : (t t1 t2 t3 t4 inner gap rest r : List ℕ) → t ≡ 40 ∷ t1 → t1 ≡ inner ++ t2 → t2 ≡ gap ++ t3 → t3 ≡ 41 ∷ t4 → t4 ≡ rest ++ r → t ≡ (40 ∷ (inner ++ (gap ++ 41 ∷ rest))) ++ r
 group_joins t t1 t2 t3 t4 inner gap rest r e1 e2 e3 e4 e5 = rw (e1, e2, e3, e4, e5) (simp append_assoc)
@@ -62,11 +62,11 @@ some_read : (n : ℕ) (t r : List ℕ) → is_next 91 t ≡ true → more (is_ne
 unfolding more
 some_read n t r h e = elim (chosen (is_next 91 t) _ _ _ e) [
   | inl k ↦
-    let a = bind_ok (behind filter_at t) (λ x. more (is_next 91) (behind filter_at) n x.1 >>= λ xs. Ok (x.0 ∷ xs.0, xs.1)) ([], r) k.1 in
-    let b = bind_ok (more (is_next 91) (behind filter_at) n a.0.1) (λ xs. Ok (a.0.0 ∷ xs.0, xs.1)) ([], r) a.2 in
-    let q = read_is (a.0.0 ∷ b.0.0, b.0.1) ([], r) b.2 in
-    let l : suc (length b.0.0) ≡ 0 = ap (λ (z : List PlainFilter × List ℕ). length z.0) q in
-    omega (arith, l)
+      let a = bind_ok (behind filter_at t) (λ x. more (is_next 91) (behind filter_at) n x.1 >>= λ xs. Ok (x.0 ∷ xs.0, xs.1)) ([], r) k.1 in
+      let b = bind_ok (more (is_next 91) (behind filter_at) n a.0.1) (λ xs. Ok (a.0.0 ∷ xs.0, xs.1)) ([], r) a.2 in
+      let q = read_is (a.0.0 ∷ b.0.0, b.0.1) ([], r) b.2 in
+      let l : suc (length b.0.0) ≡ 0 = ap (λ (z : List PlainFilter × List ℕ). length z.0) q in
+      omega (arith, l)
   | inr k ↦ absurd cc
 ]
 
@@ -91,21 +91,21 @@ atom_spells : (group : List ℕ → Read SelKind Plain) (Spec : List ℕ → Pla
 unfolding atom_over
 atom_spells group Spec law t p e = elim (chosen (is_at 40 t) _ _ _ e) [
   | inl h ↦
-    let a = bind_ok (group t) (λ x. mark_at Syntax 41 (skip x.1) >>= λ rest. filtered x.0 rest) p h.1 in
-    let b = bind_ok (mark_at Syntax 41 (skip a.0.1)) (λ rest. filtered a.0.0 rest) p a.2 in
-    let inner = law t a.0 a.1 in
-    let gap = gap_parts a.0.1 in
-    let rest = filtered_spells a.0.0 b.0 p b.2 in
-    let parts = group_joins t (drop 1 t) a.0.1 (skip a.0.1) b.0 inner.0 gap.0 rest.0 p.1 (marked 40 t h.0) inner.2 gap.2 (mark_is Syntax 41 (skip a.0.1) b.0 b.1) rest.2 in
-    (40 ∷ (inner.0 ++ (gap.0 ++ 41 ∷ rest.0)), inr (inr (inner.0, gap.0, rest.0, a.0.0, inner.1, gap.1, rest.1, refl)), parts)
+      let a = bind_ok (group t) (λ x. mark_at Syntax 41 (skip x.1) >>= λ rest. filtered x.0 rest) p h.1 in
+      let b = bind_ok (mark_at Syntax 41 (skip a.0.1)) (λ rest. filtered a.0.0 rest) p a.2 in
+      let inner = law t a.0 a.1 in
+      let gap = gap_parts a.0.1 in
+      let rest = filtered_spells a.0.0 b.0 p b.2 in
+      let parts = group_joins t (drop 1 t) a.0.1 (skip a.0.1) b.0 inner.0 gap.0 rest.0 p.1 (marked 40 t h.0) inner.2 gap.2 (mark_is Syntax 41 (skip a.0.1) b.0 b.1) rest.2 in
+      (40 ∷ (inner.0 ++ (gap.0 ++ 41 ∷ rest.0)), inr (inr (inner.0, gap.0, rest.0, a.0.0, inner.1, gap.1, rest.1, refl)), parts)
   | inr h ↦ elim (chosen (is_at 91 t) _ _ _ h.1) [
-      | inl k ↦ best_spells Spec t p k.0 k.1
-      | inr k ↦
+    | inl k ↦ best_spells Spec t p k.0 k.1
+    | inr k ↦
         let a = bind_ok (run_at Syntax is_name_byte t) (λ word. filtered (name (pick_of word.0)) word.1) p k.1 in
         let run = run_is Syntax is_name_byte t a.0 a.1 in
         let rest = filtered_spells (name (pick_of a.0.0)) a.0.1 p a.2 in
         (a.0.0 ++ rest.0, inl (a.0.0, rest.0, a.0.0, (refl, run.some, run.all), rest.1, refl), run.parts ∙ ap (λ (l : List ℕ). a.0.0 ++ l) rest.2 ∙ sym (append_assoc a.0.0 rest.0 p.1))
-    ]
+  ]
 ]
 
 pub no_group : SpellsGroup (λ p. Err (Depth, length p)) (λ s x. ⊥)
@@ -114,7 +114,7 @@ no_group t p e = absurd cc
 pub spec_spells : (operand : List ℕ → Read SelKind Plain) (P : List ℕ → Plain → Type 0) → Spells operand P → Spells (spec_over operand) (IsSpecOver P)
 spec_spells operand P law =
     joined_spells Comma (joined_at Slash (joined_at Plus operand)) (IsJoined Slash (IsJoined Plus P))
-      (joined_spells Slash (joined_at Plus operand) (IsJoined Plus P) (joined_spells Plus operand P law))
+    (joined_spells Slash (joined_at Plus operand) (IsJoined Plus P) (joined_spells Plus operand P law))
 
 pub atom_at_spells : (groups : ℕ) → Spells (atom_at groups) (IsAtom groups)
 unfolding atom_at

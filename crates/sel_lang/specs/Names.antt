@@ -55,9 +55,9 @@ nth_of word = if length word == 0 then Some 1 else if is_at 46 word then count_o
 abbrev pub ranked_of : List ℕ → Option Pick
 ranked_of word =
     option_and_then (λ rank.
-      let media = media_at rank.1 in
-      let star = is_at 42 media.1 in
-      option_map (λ n. picks.Ranked rank.0 media.0 star n) (nth_of (if star then drop 1 media.1 else media.1)))
+    let media = media_at rank.1 in
+    let star = is_at 42 media.1 in
+    option_map (λ n. picks.Ranked rank.0 media.0 star n) (nth_of (if star then drop 1 media.1 else media.1)))
     (rank_at word)
 
 -- the extensions that have a name of their own

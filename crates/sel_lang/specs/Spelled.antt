@@ -87,13 +87,13 @@ IsEnd x s y = (gap : List ℕ) × IsGap gap × (s ≡ gap ++ 93 ∷ []) × (y �
 abbrev pub IsNumFilter : NumField → List ℕ → PlainFilter → Type 0
 IsNumFilter field =
     Then (Spaced (λ s op. s ≡ num_op_text op)) (λ op. Then (IsMarked (Spaced IsNumValue)) (λ value.
-      IsEnd (num (record { field = field; op = op; value = value.1; unknown = value.0 }))))
+    IsEnd (num (record { field = field; op = op; value = value.1; unknown = value.0 }))))
 
 -- op [ "?" ] value "]" of a field of texts
 abbrev pub IsTextFilter : TextField → List ℕ → PlainFilter → Type 0
 IsTextFilter field =
     Then (Spaced (λ s op. s ≡ text_op_text op)) (λ op. Then (IsMarked (Spaced (IsTextValue op.0))) (λ value.
-      IsEnd (text (record { field = field; op = op.0; negated = op.1; value = value.1; unknown = value.0 }))))
+    IsEnd (text (record { field = field; op = op.0; negated = op.1; value = value.1; unknown = value.0 }))))
 
 -- what stands behind a field
 abbrev pub IsTail : FieldName → List ℕ → PlainFilter → Type 0

@@ -45,10 +45,7 @@ const TEXT_FIELDS: [TextField; 12] = [
 fn num_named(word: &str) -> Option<NumField>
     ensures { result ≡ num_named word.now }
 {
-    NUM_FIELDS
-        .iter()
-        .copied()
-        .find(|field| field.key() == word)
+    NUM_FIELDS.iter().copied().find(|field| field.key() == word)
 }
 
 fn text_named(word: &str) -> Option<TextField>

@@ -88,10 +88,7 @@ fn is_in_field(byte: u8) -> bool
 fn is_in_name(byte: u8) -> bool
     ensures { result ≡ is_name_byte byte }
 {
-    !matches!(
-        byte,
-        b',' | b'/' | b'+' | b'(' | b')' | b'[' | b']' | b' '
-    )
+    !matches!(byte, b',' | b'/' | b'+' | b'(' | b')' | b'[' | b']' | b' ')
 }
 
 /// Whether a byte may stand in a value without quotes.

@@ -15,7 +15,10 @@ fn places(rt: HostRuntime) {
     assert_eq!(rt; fault(&rt, "[ext=??]"), None);
     assert_eq!(rt; fault(&rt, "[quality>1]"), Some(SelFault::Field { at: 1 }));
     assert_eq!(rt; fault(&rt, "[tbr>-1]"), Some(SelFault::Value { at: 5 }));
-    assert_eq!(rt; fault(&rt, "[height==720]"), Some(SelFault::Value { at: 8 }));
+    assert_eq!(rt;
+        fault(&rt, "[height==720]"),
+        Some(SelFault::Value { at: 8 })
+    );
     assert_eq!(rt; fault(&rt, "[he ight>1]"), Some(SelFault::Field { at: 1 }));
     assert_eq!(rt; fault(&rt, "[é=1]"), syntax(1));
     assert_eq!(rt; fault(&rt, "[ext! =x]"), syntax(4));

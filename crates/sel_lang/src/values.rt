@@ -37,11 +37,7 @@ pub(crate) fn num_value(text: &str) -> Result<(Num, &str), ReadError<SelKind>>
 /// What stands up to a quote, where it stands, and behind it; a backslash takes the next character
 /// as it is.
 #[tactic(auto, using(crate::proofs::QuoteLemmas::ends_at, crate::proofs::QuoteLemmas::takes_at, crate::proofs::QuoteLemmas::escapes_at, crate::proofs::QuoteLemmas::opens_at, crate::proofs::QuoteLemmas::opens_behind))]
-fn unquoted(
-    alloc: Global,
-    quote: char,
-    text: &str,
-) -> Result<Option<(String, &str)>, OutOfMemory>
+fn unquoted(alloc: Global, quote: char, text: &str) -> Result<Option<(String, &str)>, OutOfMemory>
     requires { quote < 128 }
     ensures { IfOk result (λ r. option_map (λ x. (string_bytes x.0, x.1.now)) r
         ≡ spec.unquoted quote false text.now) }

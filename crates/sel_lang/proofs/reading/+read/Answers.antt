@@ -11,13 +11,15 @@ pub others-returns-in_err-one : goal.others-returns-in_err-one
 others-returns-in_err-one t c =
     let p = err_from_is_err_and c.from_residual.result c.from_residual.ensures.1 in
     rw (p.1, p.2) (ends (is_next (mark_of c.args.joint)) (behind (operand_at c.args.joint c.args.groups)) c.in_err-one.field-0.0 (map plain c.loop.all.items) (length c.args.text.now) c.loop.counter c.loop.rest.now _ c.loop-test.true
-        (rw (← c.mark.ensures.value) c.in-Some.ensures.some.0) (rw (← c.in-Some.ensures.some.1) c.in_err-one.ensures) c.loop.invariant.0)
+    (rw (← c.mark.ensures.value) c.in-Some.ensures.some.0) (rw (← c.in-Some.ensures.some.1) c.in_err-one.ensures) c.loop.invariant.0)
 
 pub others-loop-preserved : goal.others-loop-preserved
 others-loop-preserved t c =
-    let e : map plain c.push.new.self.items ≡ map plain c.loop.all.items ++ plain c.in_ok-one.one ∷ [] = rw c.in_ok-push.ensures.items (map_push _ c.loop.all.items c.in_ok-one.one) in
-    (rw e (goes_on (is_next (mark_of c.args.joint)) (behind (operand_at c.args.joint c.args.groups)) (map plain c.loop.all.items) (length c.args.text.now) c.loop.counter c.loop.rest.now (plain c.in_ok-one.one) c.in_ok-one.left.now _ c.loop-test.true
-        (rw (← c.mark.ensures.value) c.in-Some.ensures.some.0) (rw (← c.in-Some.ensures.some.1) c.in_ok-one.ensures) c.loop.invariant.0), search rules)
+    let e : map plain c.push.new.self.items ≡ map plain c.loop.all.items ++ plain c.in_ok-one.one ∷ [] = rw c.in_ok-push.ensures.items (map_push _ c.loop.all.items c.in_ok-one.one) in (
+      rw e (goes_on (is_next (mark_of c.args.joint)) (behind (operand_at c.args.joint c.args.groups)) (map plain c.loop.all.items) (length c.args.text.now) c.loop.counter c.loop.rest.now (plain c.in_ok-one.one) c.in_ok-one.left.now _ c.loop-test.true
+          (rw (← c.mark.ensures.value) c.in-Some.ensures.some.0) (rw (← c.in-Some.ensures.some.1) c.in_ok-one.ensures) c.loop.invariant.0),
+      search rules,
+    )
 
 pub others-returns : goal.others-returns
 others-returns t c = elim c.loop-test.branch [

@@ -12,13 +12,15 @@ pub returns-in_err-one : goal.returns-in_err-one
 returns-in_err-one c =
     let p = err_from_is_err_and c.from_residual.result c.from_residual.ensures.1 in
     rw (p.1, p.2) (ends (is_next 91) (behind filter_at) c.in_err-one.field-0.0 (map plain_filter c.loop.all.items) (length c.args.text.now) c.loop.counter c.loop.rest.now _ c.loop-test.true
-        c.in-Some.ensures.some.0 (rw (← c.in-Some.ensures.some.1) c.in_err-one.ensures) c.loop.invariant.0)
+    c.in-Some.ensures.some.0 (rw (← c.in-Some.ensures.some.1) c.in_err-one.ensures) c.loop.invariant.0)
 
 pub loop-preserved : goal.loop-preserved
 loop-preserved c =
-    let e : map plain_filter c.push.new.self.items ≡ map plain_filter c.loop.all.items ++ plain_filter c.in_ok-one.one ∷ [] = rw c.in_ok-push.ensures.items (map_push _ c.loop.all.items c.in_ok-one.one) in
-    (rw e (goes_on (is_next 91) (behind filter_at) (map plain_filter c.loop.all.items) (length c.args.text.now) c.loop.counter c.loop.rest.now (plain_filter c.in_ok-one.one) c.in_ok-one.left.now _ c.loop-test.true
-        c.in-Some.ensures.some.0 (rw (← c.in-Some.ensures.some.1) c.in_ok-one.ensures) c.loop.invariant.0), search rules)
+    let e : map plain_filter c.push.new.self.items ≡ map plain_filter c.loop.all.items ++ plain_filter c.in_ok-one.one ∷ [] = rw c.in_ok-push.ensures.items (map_push _ c.loop.all.items c.in_ok-one.one) in (
+      rw e (goes_on (is_next 91) (behind filter_at) (map plain_filter c.loop.all.items) (length c.args.text.now) c.loop.counter c.loop.rest.now (plain_filter c.in_ok-one.one) c.in_ok-one.left.now _ c.loop-test.true
+          c.in-Some.ensures.some.0 (rw (← c.in-Some.ensures.some.1) c.in_ok-one.ensures) c.loop.invariant.0),
+      search rules,
+    )
 
 pub returns : goal.returns
 returns c = elim c.loop-test.branch [
