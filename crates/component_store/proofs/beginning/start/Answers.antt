@@ -1,0 +1,53 @@
+use Rattle.std.proofs.Common.{◌≡◌, ◌∙◌, ap, sym, subst, refl, inl, inr}
+use Rattle.std.specs.Prelude.{string_bytes}
+use Rattle.folder_base.specs.Disk.{Name, Disk, Image, May}
+use Rattle.folder_base.proofs.Moments.{joined, weaker}
+use Rattle.folder_steps.proofs.ImageLemmas.{ends, settled_only}
+use Rattle.component_store.proofs.BeginLemmas.{begun_step, clear_only, begun_done}
+use Rattle.std.proofs.lemmas.Result.{err_from_is_err_and}
+use Rattle.keep_store.specs.TookLaws.{stays_both}
+use Rattle.component_store.proofs.RefuseLemmas.{later, if_later}
+use Rattle.component_store.proofs.beginning.start.Goals as goal
+
+pub returns-in_err-clear-clause-moments : goal.returns-in_err-clear-clause-moments
+returns-in_err-clear-clause-moments g c t = weaker (c.clear.ensures.moments t) (λ image h. clear_only (string_bytes c.args.target.now.name) c.args.target.now.is_final c.args.plan.now (g.F.Folder.world c.args.folder.now).story.now image h)
+
+pub returns-in_err-settle-clause-moments : goal.returns-in_err-settle-clause-moments
+returns-in_err-settle-clause-moments g c t =
+    let first = c.clear.ensures.moments (c.settle.ensures.kept.tells t) in
+    weaker (joined first (weaker (c.settle.ensures.moments t) (λ image h. ends first image h)))
+    (λ image h. clear_only (string_bytes c.args.target.now.name) c.args.target.now.is_final c.args.plan.now (g.F.Folder.world c.args.folder.now).story.now image h)
+
+pub returns-clause-moments : goal.returns-clause-moments
+returns-clause-moments g c t =
+    let C = string_bytes c.args.target.now.name in
+    let final = c.args.target.now.is_final in
+    let start = (g.F.Folder.world c.args.folder.now).story in
+    let t2 = c.replace.ensures.kept.tells t in
+    let t1 = c.settle.ensures.kept.tells t2 in
+    let cleared = c.clear.ensures.moments t1 in
+    let first = joined cleared (weaker (c.settle.ensures.moments t2) (λ image h. ends cleared image h)) in
+    let settled = c.in_ok-settle.ensures.done t2 in
+    let spare = c.as_str.ensures.value ∙ c.args.target.now.spare_is in
+    let rec = c.as_str-2.ensures.value ∙ c.args.target.now.record_is in
+    joined (weaker first (λ image h. clear_only C final c.args.plan.now start.now image h))
+    (weaker (c.replace.ensures.moments t) (λ image h. begun_step C final c.args.plan.now start.now (g.F.Folder.world c.settle.new.folder).story.now (ends first)
+        (λ n. ap (λ (d : Disk). d.live n) settled ∙ c.in_ok-clear.ensures.gone t1 n) (settled_only (g.F.Folder.world c.clear.new.folder).story.now (g.F.Folder.world c.settle.new.folder).story.now settled) spare rec c.as_bytes.ensures.value image h))
+
+pub returns-clause-done : goal.returns-clause-done
+returns-clause-done g c t =
+    let t2 = c.replace.ensures.kept.tells t in
+    let t1 = c.settle.ensures.kept.tells t2 in
+    let settled = c.in_ok-settle.ensures.done t2 in
+    let spare = c.as_str.ensures.value ∙ c.args.target.now.spare_is in
+    let rec = c.as_str-2.ensures.value ∙ c.args.target.now.record_is in
+    begun_done (string_bytes c.args.target.now.name) c.args.target.now.is_final c.args.plan.now (g.F.Folder.world c.args.folder.now).story.now (g.F.Folder.world c.settle.new.folder).story.now (g.F.Folder.world c.replace.new.folder).story.now c.replace.result
+    (λ n. ap (λ (d : Disk). d.live n) settled ∙ c.in_ok-clear.ensures.gone t1 n) spare rec c.as_bytes.ensures.value (c.replace.ensures.done t)
+
+pub returns-in_err-settle-clause-refused : goal.returns-in_err-settle-clause-refused
+returns-in_err-settle-clause-refused g c =
+    let p = err_from_is_err_and c.from_residual-in_err-settle.result c.from_residual-in_err-settle.ensures.1 in
+    rw (p.1, p.2) (later (c.clear.ensures.kept) c.in_err-settle.ensures.refused)
+
+pub returns-clause-refused : goal.returns-clause-refused
+returns-clause-refused g c = if_later _ c.replace.result (stays_both c.clear.ensures.kept c.settle.ensures.kept) c.replace.ensures.refused

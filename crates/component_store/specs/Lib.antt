@@ -1,0 +1,5 @@
+pub mod Component
+pub mod Target
+pub mod Begin
+pub mod Assemble
+pub mod Tidy
