@@ -239,7 +239,7 @@ module _ (web : Web) (component : Name) (count : ℕ) (old : Disk) (sound : Alwa
         let read_is : HasRecord component lines read_pieces = ap (λ (b : Bool). if b then reads old (record_of component) else a.before (record_of component)) (pieces_record component) ∙ before_is in
         let each_count = counted a.before (inl (inl a.possible)) lines ok before_is in
         let all = all_joined web component old read_pieces (λ k. ap (λ (b : Bool). if b then reads old (stem_of component k) else a.before (stem_of component k)) (pieces_stem component k)) lines 0 a.bytes
-            (sound read_pieces (inl (inl read_possible)) lines ok read_is).pieces (subst (λ (j : ℕ). JoinsFrom old component 0 j a.bytes) (sym each_count) a.joins) in
+        (sound read_pieces (inl (inl read_possible)) lines ok read_is).pieces (subst (λ (j : ℕ). JoinsFrom old component 0 j a.bytes) (sym each_count) a.joins) in
         record {
           pieces = pieces_less web component a.before image files_less lines 0 (sound a.before (inl (inl a.possible)) lines ok before_is).pieces;
           whole = subst (λ (o : Option Bytes). IfStands o (λ bytes. all_bytes web lines ≡ Some bytes)) (sym a.whole) all;

@@ -72,7 +72,7 @@ begun_done component final plan old mid new {spare} {to} {bytes} (Ok x) cleared 
     live n = h.live n ∙ ap (λ (s : Name). put (put mid.live s None) to (Some (lasting_file bytes)) n) e1 ∙ ap (λ (r : Name). put (put mid.live (spare_of component) None) r (Some (lasting_file bytes)) n) e2
         ∙ ap (λ (b : Bytes). put (put mid.live (spare_of component) None) (record_of component) (Some (lasting_file b)) n) e3
         ∙ ap (λ (o : Option File). if bytes_eq (record_of component) n then Some (lasting_file plan) else o)
-          (ap (λ (o : Option File). if bytes_eq (spare_of component) n then None else o) (cleared n) ∙ by (bytes_eq (spare_of component) n) refl (is_swept component final n) refl)
+        (ap (λ (o : Option File). if bytes_eq (spare_of component) n then None else o) (cleared n) ∙ by (bytes_eq (spare_of component) n) refl (is_swept component final n) refl)
       where
         by : (s : Bool) → bytes_eq (spare_of component) n ≡ s → (w : Bool) → is_swept component final n ≡ w → (if s then None else (if w then None else old.live n)) ≡ (if w then None else old.live n)
         by true e true f = refl

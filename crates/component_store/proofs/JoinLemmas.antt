@@ -76,9 +76,12 @@ module _ (component : Name) where
   pub is_joined : (count : ℕ) (old mid new : Disk) {spare to : Name} (result : Result (Unit {0}) StoreFault) → spare ≡ joined_of component → to ≡ component → HasJoined component count old mid
       → ((start : Disk) (bytes : Bytes) → HasNew spare bytes start mid → OnOk result (IsReplaced spare to bytes start new)) → OnOk result (IsJoined component count old new)
   is_joined count old mid new {spare} {to} (Err fault) is_spare is_to had done = tt
-  is_joined count old mid new {spare} {to} (Ok x) is_spare is_to had done =
-      (had.bytes, had.joins, subst (λ (n : Name). IsReplaced (joined_of component) n had.bytes old new) is_to (subst (λ (n : Name). IsReplaced n to had.bytes old new) is_spare
-      (done old had.bytes (subst (λ (n : Name). HasNew n had.bytes old mid) (sym is_spare) had.new))))
+  is_joined count old mid new {spare} {to} (Ok x) is_spare is_to had done = (
+    had.bytes,
+    had.joins,
+    subst (λ (n : Name). IsReplaced (joined_of component) n had.bytes old new) is_to (subst (λ (n : Name). IsReplaced n to had.bytes old new) is_spare
+        (done old had.bytes (subst (λ (n : Name). HasNew n had.bytes old mid) (sym is_spare) had.new))),
+  )
 
   -- a name among those of the pieces
   pub stem_begins : (count : ℕ) (name : Name) → is_stem component count name ≡ true → IsTrue (begins (pieces_of component) name)

@@ -17,11 +17,7 @@ use plan_record::{name_room, write_stem};
 use std::alloc::Global;
 
 /// Gives the only piece the component's name.
-fn assemble_one<F: Folder>(
-    target: &Target,
-    alloc: Global,
-    folder: &mut F,
-) -> Result<(), StoreFault>
+fn assemble_one<F: Folder>(target: &Target, alloc: Global, folder: &mut F) -> Result<(), StoreFault>
     requires whole { IsTrue (F.world folder.old).tells → IsWhole (F.world folder.old) }
     requires one { target.now.count ≡ 1 }
     requires complete { IsTrue (F.world folder.old).tells
@@ -51,11 +47,7 @@ fn assemble_one<F: Folder>(
 }
 
 /// Joins all pieces, gives them the component's name, and removes them.
-fn assemble_all<F: Folder>(
-    target: &Target,
-    alloc: Global,
-    folder: &mut F,
-) -> Result<(), StoreFault>
+fn assemble_all<F: Folder>(target: &Target, alloc: Global, folder: &mut F) -> Result<(), StoreFault>
     requires whole { IsTrue (F.world folder.old).tells → IsWhole (F.world folder.old) }
     requires not_one { target.now.count ≢ 1 }
     requires complete { IsTrue (F.world folder.old).tells
@@ -76,8 +68,7 @@ fn assemble_all<F: Folder>(
         (Always (IsAssembled (component_of target.now) target.now.count (F.world folder.old).story.now)
         (F.world folder.new).story.now) }
 {
-    let (Ok(mut stem), Ok(mut buffer)) =
-        (name_room(alloc, target.name.as_str()), new_buffer(alloc))
+    let (Ok(mut stem), Ok(mut buffer)) = (name_room(alloc, target.name.as_str()), new_buffer(alloc))
     else {
         return Err(StoreFault::OutOfMemory);
     };

@@ -41,7 +41,7 @@ drop_pieces-requires-clause-complete g c t =
     let t1 = c.settle.ensures.kept.tells t2 in
     let dropped = joined_dropped C (g.F.Folder.world c.drop_name.new.folder).story.now.live (g.F.Folder.world c.args.folder.now).story.now.live (c.as_str-2.ensures.value ∙ c.args.target.now.joined_is) (c.in_ok-drop_name.ensures.gone t1) in
     complete_same C c.args.target.now.count (g.F.Folder.world c.args.folder.now).story.now.live (g.F.Folder.world c.join.new.folder).story.now.live (λ k. stems_left C c.args.target.now.count (g.F.Folder.world c.settle.new.folder).story.now (g.F.Folder.world c.join.new.folder).story.now (c.in_ok-join.ensures.done t) k
-        ∙ ap (λ (d : Disk). d.live (stem_of C k)) (c.in_ok-settle.ensures.done t2) ∙ dropped (stem_of C k) ∙ put_there (g.F.Folder.world c.args.folder.now).story.now.live (joined_of C) (stem_of C k) None (joined_stem C k)) (c.requires.complete (c.drop_name.ensures.kept.tells t1))
+    ∙ ap (λ (d : Disk). d.live (stem_of C k)) (c.in_ok-settle.ensures.done t2) ∙ dropped (stem_of C k) ∙ put_there (g.F.Folder.world c.args.folder.now).story.now.live (joined_of C) (stem_of C k) None (joined_stem C k)) (c.requires.complete (c.drop_name.ensures.kept.tells t1))
 
 pub returns-in_err-drop_name-clause-moments : goal.returns-in_err-drop_name-clause-moments
 returns-in_err-drop_name-clause-moments g c t =
@@ -110,7 +110,7 @@ returns-clause-in_all g c t =
     let settled = c.in_ok-settle.ensures.done t2 in
     let dropped = joined_dropped C (g.F.Folder.world c.drop_name.new.folder).story.now.live (g.F.Folder.world c.args.folder.now).story.now.live is_joined (c.in_ok-drop_name.ensures.gone t1) in
     ok_anyway c.drop_pieces.result (λ image h. assembled_thin C count (g.F.Folder.world c.args.folder.now).story.now (g.F.Folder.world c.join.new.folder).story.now
-        (joined_all C count (g.F.Folder.world c.args.folder.now).story.now (g.F.Folder.world c.settle.new.folder).story.now (ends first) (λ n. ap (λ (d : Disk). d.live n) settled ∙ dropped n) (settled_only (g.F.Folder.world c.drop_name.new.folder).story.now (g.F.Folder.world c.settle.new.folder).story.now settled) (g.F.Folder.world c.join.new.folder).story.now (c.in_ok-join.ensures.done t3)) image (ends (c.drop_pieces.ensures.moments t) image h))
+    (joined_all C count (g.F.Folder.world c.args.folder.now).story.now (g.F.Folder.world c.settle.new.folder).story.now (ends first) (λ n. ap (λ (d : Disk). d.live n) settled ∙ dropped n) (settled_only (g.F.Folder.world c.drop_name.new.folder).story.now (g.F.Folder.world c.settle.new.folder).story.now settled) (g.F.Folder.world c.join.new.folder).story.now (c.in_ok-join.ensures.done t3)) image (ends (c.drop_pieces.ensures.moments t) image h))
 
 pub returns-in_err-settle-clause-refused : goal.returns-in_err-settle-clause-refused
 returns-in_err-settle-clause-refused g c =

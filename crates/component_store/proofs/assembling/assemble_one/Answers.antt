@@ -71,5 +71,5 @@ returns-clause-refused g c =
     let C = string_bytes c.args.target.now.name in
     let is_stem = c.as_str-3.ensures.value ∙ c.write_stem.ensures.bytes ∙ ap (λ (n : Name). stem_of n 0) c.as_str-2.ensures.value in
     let stands = λ (t1 : IsTrue mid.tells). subst (λ (n : Name). IsSome (mid.story.now.live n)) (sym is_stem)
-        (subst (λ (l : Names). IsSome (l (stem_of C 0))) (sym (ap (λ (d : Disk). d.live) (c.in_ok-settle.ensures.done t1))) (c.requires.complete (c.settle.ensures.kept.tells t1) 0 (omega (arith, c.requires.one)))) in
+    (subst (λ (l : Names). IsSome (l (stem_of C 0))) (sym (ap (λ (d : Disk). d.live) (c.in_ok-settle.ensures.done t1))) (c.requires.complete (c.settle.ensures.kept.tells t1) 0 (omega (arith, c.requires.one)))) in
     if_later _ c.publish.result c.settle.ensures.kept (refusal_of mid _ c.publish.result c.publish.ensures.refused c.publish.ensures.steady stands)

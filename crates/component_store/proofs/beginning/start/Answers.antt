@@ -32,7 +32,7 @@ returns-clause-moments g c t =
     let rec = c.as_str-2.ensures.value ∙ c.args.target.now.record_is in
     joined (weaker first (λ image h. clear_only C final c.args.plan.now start.now image h))
     (weaker (c.replace.ensures.moments t) (λ image h. begun_step C final c.args.plan.now start.now (g.F.Folder.world c.settle.new.folder).story.now (ends first)
-        (λ n. ap (λ (d : Disk). d.live n) settled ∙ c.in_ok-clear.ensures.gone t1 n) (settled_only (g.F.Folder.world c.clear.new.folder).story.now (g.F.Folder.world c.settle.new.folder).story.now settled) spare rec c.as_bytes.ensures.value image h))
+    (λ n. ap (λ (d : Disk). d.live n) settled ∙ c.in_ok-clear.ensures.gone t1 n) (settled_only (g.F.Folder.world c.clear.new.folder).story.now (g.F.Folder.world c.settle.new.folder).story.now settled) spare rec c.as_bytes.ensures.value image h))
 
 pub returns-clause-done : goal.returns-clause-done
 returns-clause-done g c t =

@@ -47,4 +47,3 @@ pub returns-in_err-drop_standing-clause-refused : goal.returns-in_err-drop_stand
 returns-in_err-drop_standing-clause-refused g c =
     let p = err_from_is_err_and c.from_residual.result c.from_residual.ensures.1 in
     rw (p.1, p.2) (refusal_later (c.loop-piece.invariant.kept) c.in_err-drop_standing.ensures.refused)
-

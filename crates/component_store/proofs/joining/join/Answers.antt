@@ -44,7 +44,7 @@ returns-in_err-pour_all-clause-moments g c t =
     let t1 = c.pour_all.ensures.kept.tells t in
     let is_joined_name = c.as_str.ensures.value ∙ c.args.target.now.joined_is in
     weaker (c.pour_all.ensures.loose t old (none_joined C _ _ is_joined_name (c.in_ok-make.ensures.made t1))
-        (subst (λ (n : Name). Through old (g.F.Folder.world c.make.new.folder).story (IsLoose n old.now)) is_joined_name (c.make.ensures.moments t1))) (λ image h. inl h)
+    (subst (λ (n : Name). Through old (g.F.Folder.world c.make.new.folder).story (IsLoose n old.now)) is_joined_name (c.make.ensures.moments t1))) (λ image h. inl h)
 
 pub returns-clause-moments : goal.returns-clause-moments
 returns-clause-moments g c t =

@@ -78,8 +78,8 @@ returns-clause-live g c t =
     let keeps = c.in_ok-its_record.ensures.told t2 ∙ ap (λ (s : Story). c.args.keep && is_some (s.now.live C)) same1 in
     on_ok_weaker c.clear.result
     (λ gone. cleared_names C final c.args.keep old.now.live stands c.in_ok-its_record.its_record keeps
-        (λ n. gone n ∙ ap (λ (b : Bool). if is_cleared C b c.in_ok-its_record.its_record n then None else (g.F.Folder.world c.keeps_record.new.folder).story.now.live n) c.component_stays.ensures
-        ∙ ap (λ (s : Story). if is_cleared C (final || c.args.keep) c.in_ok-its_record.its_record n then None else s.now.live n) same2))
+    (λ n. gone n ∙ ap (λ (b : Bool). if is_cleared C b c.in_ok-its_record.its_record n then None else (g.F.Folder.world c.keeps_record.new.folder).story.now.live n) c.component_stays.ensures
+    ∙ ap (λ (s : Story). if is_cleared C (final || c.args.keep) c.in_ok-its_record.its_record n then None else s.now.live n) same2))
     (c.clear.ensures.gone t)
 
 pub returns-in_err-its_record-clause-refused : goal.returns-in_err-its_record-clause-refused
