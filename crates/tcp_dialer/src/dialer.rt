@@ -49,7 +49,7 @@ impl<N: Net + Clock> Dialer for TcpDialer<'_, N> {
 
     fn dial(&mut self, host: &str, port: u16) -> Result<(), FolderFault> {
         self.stream = None;
-        match connect(self.net, plain_host(host), port) {
+        match connect(self.net, &(plain_host(host), port)) {
             Ok(stream) => {
                 self.stream = Some(stream);
                 Ok(())
@@ -127,9 +127,12 @@ fn plain_host(host: &str) -> &str
     inner.strip_suffix("]").unwrap_or(host)
 }
 
-/// Connects to the first address of a host that answers in the time that all of them have.
-fn connect<N: Net + Clock>(net: &N, host: &str, port: u16) -> io::Result<N::Stream> {
-    let addresses = (host, port).to_socket_addrs(net)?;
+/// Connects to the first of the addresses that answers in the time that all of them have.
+pub(crate) fn connect<N: Net + Clock, A: ToSocketAddrs>(
+    net: &N,
+    place: &A,
+) -> io::Result<N::Stream> {
+    let addresses = place.to_socket_addrs(net)?;
     let patience = Duration::from_secs(PATIENCE);
     let start = Instant::now(net)?;
     let mut last = io::Error::from(ErrorKind::NotFound);

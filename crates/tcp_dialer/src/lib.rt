@@ -4,3 +4,6 @@
 mod dialer;
 
 pub use dialer::TcpDialer;
+
+#[cfg(test)]
+mod tests;
