@@ -1,4 +1,4 @@
-pub mod FreeLemmas
+pub mod NumberLemmas
 pub mod OrderLemmas
 pub mod RankedLemmas
 pub mod ReadingLemmas

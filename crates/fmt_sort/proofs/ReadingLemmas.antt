@@ -1,16 +1,17 @@
 -- Pieces are read from left to right, words too, and fields are put one after the other.
 use Rattle.std.proofs.Common.{◌≡◌, ◌≤◌, ◌<◌, ◌+◌, ℕ, zero, suc, List, [], ◌∷◌, ◌++◌, Bool, true, false, ◌||◌, map, take, drop, length, get_or, eqb, Result, Ok, Err, refl, sym, ap, ◌∙◌, arith, add-one, append_assoc, length-drop, drop-cons, inl, inr}
-use Rattle.std.specs.Prelude.{fold}
+use Rattle.std.specs.Prelude.{fold, reverse}
 use Rattle.std.specs.List.{list_any}
 use Rattle.std.proofs.lemmas.List.Sums.{fold-append}
 use Rattle.std.proofs.lemmas.Bool.{cases_lt}
-use Rattle.std.proofs.lemmas.List.{append-nil, drop-drop, map-append, take_all as take_whole}
+use Rattle.std.proofs.lemmas.List.{append-nil, reverse-append, reverse-reverse, drop-drop, map-append, take_all as take_whole}
 use Rattle.fmt_sort.specs.Pieces.{is_comma, cut}
 use Rattle.fmt_sort.specs.Read.{latest_first}
 use Rattle.std.specs.Str.{bytes_eq}
 use Rattle.fmt_sort.specs.Keys.{name_of}
-use Rattle.fmt_sort.specs.Reading.{put, is_there, pieces_of, piece_fields, pieces_fields, words_fields, before_others, behind_others, IsFaultOf}
-use Rattle.fmt_sort.specs.Spec.{Wanted, wanted_of}
+use Rattle.fmt_sort.specs.Reading.{put, is_there, pieces_of, piece_given, pieces_given, words_given, before_others, behind_others, IsFaultOf}
+use Rattle.fmt_sort.specs.Spec.{Given, given_of, Wanted, wanted_of, wanted_when}
+use Rattle.fmt_sort.specs.declared.given.GivenField.{GivenField}
 use Rattle.fmt_sort.specs.declared.sort_fault.SortFault.{SortFault}
 use Rattle.fmt_sort.specs.declared.sort_field.SortField.{SortField}
 use Rattle.fmt_sort.specs.declared.sort_fault.SortFault.TheVariants.{Field, Limit, OutOfMemory}
@@ -38,11 +39,13 @@ pub any_mapped : {E W : Type 0} (p : W → Bool) (view : E → W) (xs : List E) 
 any_mapped p view [] = refl
 any_mapped p view (x ∷ xs) = ap (λ z. p (view x) || z) (any_mapped p view xs)
 
--- ---- lists, the last first
+-- ---- fields, the last first
 
-pub latest_more : (lists : List (List Wanted)) (x : List Wanted) → latest_first (lists ++ x ∷ []) ≡ x ++ latest_first lists
-latest_more [] x = sym (append-nil x)
-latest_more (y ∷ lists) x = ap (λ z. z ++ y) (latest_more lists x) ∙ append_assoc x (latest_first lists) y
+-- what was read last comes first
+pub latest_more : (old new fs : List GivenField) → new ≡ old ++ reverse fs → latest_first new ≡ map given_of fs ++ latest_first old
+latest_more old new fs e =
+    ap latest_first e ∙ (ap (map given_of) (reverse-append old (reverse fs) ∙ ap (λ z. z ++ reverse old) (reverse-reverse fs))
+    ∙ map-append given_of fs (reverse old))
 
 -- ---- the pieces of a text
 
@@ -85,25 +88,25 @@ fault_too x y OutOfMemory h f = tt
 
 -- ---- outcomes
 
-pub none_before : (x : Result (List Wanted) SortFault) → x ≡ before_others (Ok []) x
+pub none_before : (x : Result (List Given) SortFault) → x ≡ before_others (Ok []) x
 none_before (Ok fs) = refl
 none_before (Err e) = refl
 
-pub none_behind : (x : Result (List Wanted) SortFault) → x ≡ behind_others (Ok []) x
+pub none_behind : (x : Result (List Given) SortFault) → x ≡ behind_others (Ok []) x
 none_behind (Ok fs) = ap (λ z. Ok z) (sym (append-nil fs))
 none_behind (Err e) = refl
 
-pub before_both : (fs gs : List Wanted) (x : Result (List Wanted) SortFault) → before_others (Ok fs) (before_others (Ok gs) x) ≡ before_others (Ok (fs ++ gs)) x
+pub before_both : (fs gs : List Given) (x : Result (List Given) SortFault) → before_others (Ok fs) (before_others (Ok gs) x) ≡ before_others (Ok (fs ++ gs)) x
 before_both fs gs (Ok hs) = ap (λ z. Ok z) (sym (append_assoc fs gs hs))
 before_both fs gs (Err e) = refl
 
-pub behind_both : (fs gs : List Wanted) (x : Result (List Wanted) SortFault) → behind_others (Ok fs) (behind_others (Ok gs) x) ≡ behind_others (Ok (gs ++ fs)) x
+pub behind_both : (fs gs : List Given) (x : Result (List Given) SortFault) → behind_others (Ok fs) (behind_others (Ok gs) x) ≡ behind_others (Ok (gs ++ fs)) x
 behind_both fs gs (Ok hs) = ap (λ z. Ok z) (append_assoc hs gs fs)
 behind_both fs gs (Err e) = refl
 
 -- ---- a piece, and a word
 
-module _ (free : Bool) (k next s end : ℕ) (w rest piece : List ℕ) (fs : List Wanted) (r : rest ≡ drop s w) (p : piece ≡ take end rest) (e : end ≡ cut is_comma rest) where
+module _ (k next s end : ℕ) (w rest piece : List ℕ) (fs : List Given) (r : rest ≡ drop s w) (p : piece ≡ take end rest) (e : end ≡ cut is_comma rest) where
   inner : end < length rest → pieces_of (drop s w) ≡ piece ∷ pieces_of (drop (s + (end + 1)) w)
   inner l =
       let t : drop (end + 1) rest ≡ drop (s + (end + 1)) w = ap (drop (end + 1)) r ∙ drop-drop (end + 1) s w in
@@ -121,21 +124,21 @@ module _ (free : Bool) (k next s end : ℕ) (w rest piece : List ℕ) (fs : List
     | inr h ↦ ([], last (omega arith))
   ]
 
-  module _ (so_far : pieces_fields free k (pieces_of w) ≡ before_others (Ok fs) (pieces_fields free next (pieces_of (drop s w)))) where
-    pub piece_faulty : end ≤ length rest → (f : SortFault) → piece_fields free next piece ≡ Err f → pieces_fields free k (pieces_of w) ≡ Err f
+  module _ (so_far : pieces_given k (pieces_of w) ≡ before_others (Ok fs) (pieces_given next (pieces_of (drop s w)))) where
+    pub piece_faulty : end ≤ length rest → (f : SortFault) → piece_given next piece ≡ Err f → pieces_given k (pieces_of w) ≡ Err f
     piece_faulty l f h =
         let (more, m) = some_behind l in
-        so_far ∙ (ap (λ z. before_others (Ok fs) (pieces_fields free next z)) m ∙ ap (λ z. before_others (Ok fs) (before_others z (pieces_fields free (next + 1) more))) h)
+        so_far ∙ (ap (λ z. before_others (Ok fs) (pieces_given next z)) m ∙ ap (λ z. before_others (Ok fs) (before_others z (pieces_given (next + 1) more))) h)
 
-    pub piece_read : end < length rest → (gs : List Wanted) → piece_fields free next piece ≡ Ok gs →
-        pieces_fields free k (pieces_of w) ≡ before_others (Ok (fs ++ gs)) (pieces_fields free (next + 1) (pieces_of (drop (s + (end + 1)) w)))
+    pub piece_read : end < length rest → (gs : List Given) → piece_given next piece ≡ Ok gs →
+        pieces_given k (pieces_of w) ≡ before_others (Ok (fs ++ gs)) (pieces_given (next + 1) (pieces_of (drop (s + (end + 1)) w)))
     piece_read l gs h =
-        so_far ∙ (ap (λ z. before_others (Ok fs) (pieces_fields free next z)) (inner l)
-        ∙ (ap (λ z. before_others (Ok fs) (before_others z (pieces_fields free (next + 1) (pieces_of (drop (s + (end + 1)) w))))) h ∙ before_both fs gs _))
+        so_far ∙ (ap (λ z. before_others (Ok fs) (pieces_given next z)) (inner l)
+        ∙ (ap (λ z. before_others (Ok fs) (before_others z (pieces_given (next + 1) (pieces_of (drop (s + (end + 1)) w))))) h ∙ before_both fs gs _))
 
-    pub pieces_read : end ≡ length rest → (gs : List Wanted) → piece_fields free next piece ≡ Ok gs → pieces_fields free k (pieces_of w) ≡ Ok (fs ++ gs)
+    pub pieces_read : end ≡ length rest → (gs : List Given) → piece_given next piece ≡ Ok gs → pieces_given k (pieces_of w) ≡ Ok (fs ++ gs)
     pieces_read l gs h =
-        so_far ∙ (ap (λ z. before_others (Ok fs) (pieces_fields free next z)) (last l)
+        so_far ∙ (ap (λ z. before_others (Ok fs) (pieces_given next z)) (last l)
         ∙ (ap (λ z. before_others (Ok fs) (before_others z (Ok []))) h ∙ ap (λ z. Ok (fs ++ z)) (append-nil gs)))
 
   module _ (counted : k + length (pieces_of w) ≡ next + length (pieces_of (drop s w))) where
@@ -145,33 +148,31 @@ module _ (free : Bool) (k next s end : ℕ) (w rest piece : List ℕ) (fs : List
     pub pieces_counted : end ≡ length rest → next + 1 ≡ k + length (pieces_of w)
     pieces_counted l = let n = ap length (last l) in omega arith
 
-module _ (free : Bool) (next i : ℕ) (ws : List (List ℕ)) (w : List ℕ) (fs : List Wanted) (l : i < length ws) (e : w ≡ get_or ws i w) (whole : Result (List Wanted) SortFault)
-    (so_far : whole ≡ behind_others (Ok fs) (words_fields free next (drop i ws))) where
+module _ (next i : ℕ) (ws : List (List ℕ)) (w : List ℕ) (fs : List Given) (l : i < length ws) (e : w ≡ get_or ws i w) (whole : Result (List Given) SortFault)
+    (so_far : whole ≡ behind_others (Ok fs) (words_given next (drop i ws))) where
   this_word : drop i ws ≡ w ∷ drop (suc i) ws
   this_word = drop-cons ws i w l ∙ ap (λ z. z ∷ drop (suc i) ws) (sym e)
 
-  pub word_faulty : (f : SortFault) → pieces_fields free next (pieces_of w) ≡ Err f → whole ≡ Err f
+  pub word_faulty : (f : SortFault) → pieces_given next (pieces_of w) ≡ Err f → whole ≡ Err f
   word_faulty f h =
-      so_far ∙ (ap (λ z. behind_others (Ok fs) (words_fields free next z)) this_word
-      ∙ ap (λ z. behind_others (Ok fs) (behind_others z (words_fields free (next + length (pieces_of w)) (drop (suc i) ws)))) h)
+      so_far ∙ (ap (λ z. behind_others (Ok fs) (words_given next z)) this_word
+      ∙ ap (λ z. behind_others (Ok fs) (behind_others z (words_given (next + length (pieces_of w)) (drop (suc i) ws)))) h)
 
-  pub word_read : (gs : List Wanted) (behind : ℕ) → pieces_fields free next (pieces_of w) ≡ Ok gs → behind ≡ next + length (pieces_of w) →
-      whole ≡ behind_others (Ok (gs ++ fs)) (words_fields free behind (drop (i + 1) ws))
+  pub word_read : (gs : List Given) (behind : ℕ) → pieces_given next (pieces_of w) ≡ Ok gs → behind ≡ next + length (pieces_of w) →
+      whole ≡ behind_others (Ok (gs ++ fs)) (words_given behind (drop (i + 1) ws))
   word_read gs behind h q =
-      so_far ∙ (ap (λ z. behind_others (Ok fs) (words_fields free next z)) this_word
-      ∙ (ap (λ z. behind_others (Ok fs) (behind_others z (words_fields free (next + length (pieces_of w)) (drop (suc i) ws)))) h
-      ∙ (behind_both fs gs _ ∙ (ap (λ z. behind_others (Ok (gs ++ fs)) (words_fields free z (drop (suc i) ws))) (sym q) ∙ rw add-one refl))))
+      so_far ∙ (ap (λ z. behind_others (Ok fs) (words_given next z)) this_word
+      ∙ (ap (λ z. behind_others (Ok fs) (behind_others z (words_given (next + length (pieces_of w)) (drop (suc i) ws)))) h
+      ∙ (behind_both fs gs _ ∙ (ap (λ z. behind_others (Ok (gs ++ fs)) (words_given z (drop (suc i) ws))) (sym q) ∙ rw add-one refl))))
 
 -- ---- fields put
 
-module _ {E : Type 0} (view : E → List Wanted) where
-  pub list_behind : (old new : List E) (x : E) → new ≡ old ++ x ∷ [] → latest_first (map view new) ≡ view x ++ latest_first (map view old)
-  list_behind old new x e = ap (λ z. latest_first (map view z)) e ∙ (ap latest_first (map-append view old (x ∷ [])) ∙ latest_more (map view old) (view x))
-
-  pub last_list_put : (old new : List E) (x : E) (all a b : List Wanted) → all ≡ fold put a (latest_first (map view old)) → old ≡ new ++ x ∷ [] →
-      b ≡ fold put a (view x) → all ≡ fold put b (latest_first (map view new))
-  last_list_put old new x all a b w e q =
-      w ∙ (ap (fold put a) (list_behind new old x e) ∙ (fold-append put a (view x) (latest_first (map view new)) ∙ ap (λ z. fold put z (latest_first (map view new))) (sym q)))
+-- the last given field is put
+pub last_put : (free : Bool) (old new : List GivenField) (x : GivenField) (all a b : List Wanted) →
+    all ≡ fold put a (map (wanted_when free) (latest_first old)) → old ≡ new ++ x ∷ [] → b ≡ put a (wanted_when free (given_of x)) →
+    all ≡ fold put b (map (wanted_when free) (latest_first new))
+last_put free old new x all a b w e q =
+    w ∙ (ap (λ z. fold put a (map (wanted_when free) z)) (latest_more new old (x ∷ []) e) ∙ ap (λ z. fold put z (map (wanted_when free) (latest_first new))) (sym q))
 
 module _ (fields : List SortField) (f : SortField) (there : Bool) (h : there ≡ list_any (λ g. bytes_eq (name_of g.key) (name_of f.key)) fields) where
   as_wanted : there ≡ is_there (wanted_of f) (map wanted_of fields)

@@ -1,13 +1,14 @@
 -- Sort words: the fields that they name, or their first fault.
-use Rattle.std.specs.Prelude.{◌≡◌, ℕ, ◌+◌, List, [], ◌∷◌, ◌++◌, map, fold, length, codes, Bool, false, ◌&&◌, ◌||◌, ◌==◌, if◌then◌else◌, Option, Some, None, Result, Ok, Err}
+use Rattle.std.specs.Prelude.{◌≡◌, ℕ, ◌+◌, List, [], ◌∷◌, ◌++◌, map, fold, length, codes, Bool, false, true, ◌&&◌, ◌||◌, ◌==◌, if◌then◌else◌, Option, Some, None, unwrap_or, Result, Ok, Err}
 use Rattle.std.specs.Option.{option_map, ok_or}
+use Rattle.std.specs.Result.{result_ok}
 use Rattle.std.specs.List.{list_any, slice_split}
 use Rattle.std.specs.Str.{bytes_eq}
 use Rattle.text_base.specs.Size.{size_of}
 use Rattle.fmt_sort.specs.Keys.{name_of, kind_of, key_named}
 use Rattle.fmt_sort.specs.Pieces.{Parts, parts, is_comma, is_colon, before, behind}
 use Rattle.fmt_sort.specs.Rows.{limit_points}
-use Rattle.fmt_sort.specs.Spec.{Bound, at_number, at_points, Wanted, Wish}
+use Rattle.fmt_sort.specs.Spec.{at_points, GivenBound, number_given, points_given, Given, Wanted, wanted_when, Wish}
 use Rattle.fmt_sort.specs.declared.kind.Kind.{Kind}
 use Rattle.fmt_sort.specs.declared.kind.Kind.TheVariants.{Listed, FormatId}
 use Rattle.fmt_sort.specs.declared.row.Row.TheVariants.{Ranges}
@@ -26,77 +27,81 @@ target_of name =
     else option_map (λ k. One k) (key_named name)
 
 -- the limit that a text names: points in the field's row, a size, and none for the id
-abbrev pub limit_of : Bool → Kind → List ℕ → Option Bound
-limit_of free FormatId text = None
-limit_of free (Listed row) text = Some (at_points (limit_points row free text))
-limit_of free kind text = option_map (λ n. at_number n) (size_of 1024 text)
+abbrev pub limit_of : Kind → List ℕ → Option GivenBound
+limit_of FormatId text = None
+limit_of (Listed row) text = Some (points_given (limit_points row false text) (limit_points row true text))
+limit_of kind text = option_map (λ n. number_given n) (size_of 1024 text)
 
--- a field without a limit
-abbrev pub unlimited : Bool → SortKey → Wanted
-unlimited reversed key = record { key = key; reversed = reversed; nearest = false; limit = None }
+-- a field that a piece gives without a limit
+abbrev pub without_limit : Bool → SortKey → Given
+without_limit reversed key = record { key = key; reversed = reversed; nearest = false; limit = None }
 
--- a field with a limit
-abbrev pub limited : Bool → Bool → SortKey → Bound → Wanted
-limited reversed nearest key limit = record { key = key; reversed = reversed; nearest = nearest; limit = Some limit }
+-- a field that a piece gives with a limit
+abbrev pub with_limit : Bool → Bool → SortKey → GivenBound → Given
+with_limit reversed nearest key limit = record { key = key; reversed = reversed; nearest = nearest; limit = Some limit }
 
 -- the field of a key: an empty limit is none
-abbrev pub field_of : Bool → Bool → Bool → SortKey → List ℕ → Option Wanted
-field_of free reversed nearest key text =
-    if length text == 0 then Some (unlimited reversed key) else option_map (limited reversed nearest key) (limit_of free (kind_of key) text)
+abbrev pub field_of : Bool → Bool → SortKey → List ℕ → Option Given
+field_of reversed nearest key text =
+    if length text == 0 then Some (without_limit reversed key) else option_map (with_limit reversed nearest key) (limit_of (kind_of key) text)
 
 -- both fields, where both can be read
-abbrev pub both : Option Wanted → Option Wanted → Option (List Wanted)
+abbrev pub both : Option Given → Option Given → Option (List Given)
 both None other = None
 both (Some f) None = None
 both (Some f) (Some g) = Some (f ∷ g ∷ [])
 
 -- The fields of a piece. A single field takes no second colon; `codec` and `ext` take a limit for each of their fields, split by `:`;
 -- `~` needs a limit.
-abbrev pub fields_by : Bool → Parts → Target → Option (List Wanted)
-fields_by free p (One key) =
+abbrev pub fields_by : Parts → Target → Option (List Given)
+fields_by p (One key) =
     if list_any is_colon p.limit || p.nearest && length p.limit == 0 then None
-    else option_map (λ f. f ∷ []) (field_of free p.reversed p.nearest key p.limit)
-fields_by free p (Two a b) =
+    else option_map (λ f. f ∷ []) (field_of p.reversed p.nearest key p.limit)
+fields_by p (Two a b) =
     let first = before is_colon p.limit in
     let second = behind is_colon p.limit in
     if list_any is_colon second || p.nearest && length first == 0 && length second == 0 then None
-    else both (field_of free p.reversed p.nearest a first) (field_of free p.reversed p.nearest b second)
+    else both (field_of p.reversed p.nearest a first) (field_of p.reversed p.nearest b second)
 
 -- the fields of piece k, or its fault: its field is unknown, or its limit is refused
-abbrev pub fields_or_fault : Bool → ℕ → Parts → Option Target → Result (List Wanted) SortFault
-fields_or_fault free k p None = Err (Field k)
-fields_or_fault free k p (Some target) = ok_or (fields_by free p target) (Limit k)
+abbrev pub fields_or_fault : ℕ → Parts → Option Target → Result (List Given) SortFault
+fields_or_fault k p None = Err (Field k)
+fields_or_fault k p (Some target) = ok_or (fields_by p target) (Limit k)
 
--- the fields of piece k as it is written, or its fault
-abbrev pub piece_fields : Bool → ℕ → List ℕ → Result (List Wanted) SortFault
-piece_fields free k piece = fields_or_fault free k (parts piece) (target_of (parts piece).name)
+-- the fields that piece k gives as it is written, or its fault
+abbrev pub piece_given : ℕ → List ℕ → Result (List Given) SortFault
+piece_given k piece = fields_or_fault k (parts piece) (target_of (parts piece).name)
 
 -- the first list before the others, or the first fault
-abbrev pub before_others : Result (List Wanted) SortFault → Result (List Wanted) SortFault → Result (List Wanted) SortFault
+abbrev pub before_others : Result (List Given) SortFault → Result (List Given) SortFault → Result (List Given) SortFault
 before_others (Err e) others = Err e
 before_others (Ok fs) (Err e) = Err e
 before_others (Ok fs) (Ok gs) = Ok (fs ++ gs)
 
 -- the first list behind the others, or the first fault
-abbrev pub behind_others : Result (List Wanted) SortFault → Result (List Wanted) SortFault → Result (List Wanted) SortFault
+abbrev pub behind_others : Result (List Given) SortFault → Result (List Given) SortFault → Result (List Given) SortFault
 behind_others (Err e) others = Err e
 behind_others (Ok fs) (Err e) = Err e
 behind_others (Ok fs) (Ok gs) = Ok (gs ++ fs)
 
 -- the fields of all pieces, numbered from k on, or the first fault
-abbrev pub pieces_fields : Bool → ℕ → List (List ℕ) → Result (List Wanted) SortFault
-pieces_fields free k [] = Ok []
-pieces_fields free k (piece ∷ pieces) = before_others (piece_fields free k piece) (pieces_fields free (k + 1) pieces)
+abbrev pub pieces_given : ℕ → List (List ℕ) → Result (List Given) SortFault
+pieces_given k [] = Ok []
+pieces_given k (piece ∷ pieces) = before_others (piece_given k piece) (pieces_given (k + 1) pieces)
 
 -- the pieces of a word
 abbrev pub pieces_of : List ℕ → List (List ℕ)
 pieces_of word = slice_split is_comma word
 
+-- the fields that a word gives, which has none where it is at fault; the number of its first piece changes its faults alone
+abbrev pub word_given : List ℕ → List Given
+word_given word = unwrap_or (result_ok (pieces_given 0 (pieces_of word))) []
+
 -- the fields of all words, a later word's before an earlier one's; pieces are numbered from k on, in the order in which they are given
-abbrev pub words_fields : Bool → ℕ → List (List ℕ) → Result (List Wanted) SortFault
-words_fields free k [] = Ok []
-words_fields free k (word ∷ words) =
-    behind_others (pieces_fields free k (pieces_of word)) (words_fields free (k + length (pieces_of word)) words)
+abbrev pub words_given : ℕ → List (List ℕ) → Result (List Given) SortFault
+words_given k [] = Ok []
+words_given k (word ∷ words) =
+    behind_others (pieces_given k (pieces_of word)) (words_given (k + length (pieces_of word)) words)
 
 -- whether a field of this name stands among others
 abbrev pub is_there : Wanted → List Wanted → Bool
@@ -106,10 +111,14 @@ is_there f fields = list_any (λ g. bytes_eq (name_of g.key) (name_of f.key)) fi
 abbrev pub put : List Wanted → Wanted → List Wanted
 put fields f = if is_there f fields then fields else fields ++ f ∷ []
 
+-- a field without a limit
+abbrev pub unlimited : SortKey → Wanted
+unlimited key = record { key = key; reversed = false; nearest = false; limit = None }
+
 -- a field among those that stand in each order: without a limit, but `hdr` has the limit 12
 abbrev pub standing : SortKey → Wanted
-standing DynamicRange = limited false false DynamicRange (at_points (limit_points Ranges false (codes "12")))
-standing key = unlimited false key
+standing DynamicRange = record (unlimited DynamicRange) { limit = Some (at_points (limit_points Ranges false (codes "12"))) }
+standing key = unlimited key
 
 -- the fields that stand first
 abbrev pub first_fields : List Wanted
@@ -126,14 +135,18 @@ abbrev pub in_order : Bool → List Wanted → List Wanted
 in_order force given =
     fold put [] (if force then given ++ (first_fields ++ last_fields) else first_fields ++ (given ++ last_fields))
 
--- the sort specification that fields give
-abbrev pub wish_by : Bool → Bool → Result (List Wanted) SortFault → Result Wish SortFault
+-- the sort specification of given fields
+abbrev pub wish_when : Bool → Bool → List Given → Wish
+wish_when force free given = record { free = free; fields = in_order force (map (wanted_when free) given) }
+
+-- the sort specification of given fields, or their fault
+abbrev pub wish_by : Bool → Bool → Result (List Given) SortFault → Result Wish SortFault
 wish_by force free (Err e) = Err e
-wish_by force free (Ok given) = Ok (record { free = free; fields = in_order force given })
+wish_by force free (Ok given) = Ok (wish_when force free given)
 
 -- the sort specification that words give, or their first fault
 abbrev pub wish_for : Bool → Bool → List (List ℕ) → Result Wish SortFault
-wish_for force free words = wish_by force free (words_fields free 0 words)
+wish_for force free words = wish_by force free (words_given 0 words)
 
 -- The fault is that of the outcome. Want of memory may come at any time.
 abbrev pub IsFaultOf : {B : Type 0} → Result B SortFault → SortFault → Type 0

@@ -1,6 +1,8 @@
 //! How an item's formats are sorted: sort words, ranks, and the order from best to worst.
 #![tactic(auto)]
 
+mod field_order;
+mod given;
 mod kind;
 mod limit;
 mod mark;
@@ -13,18 +15,19 @@ mod sort_fault;
 mod sort_field;
 mod sort_key;
 mod sort_spec;
+mod sort_words;
 mod target;
 mod value;
 
 pub use kind::Kind;
 pub use limit::Limit;
 pub use order::{rank_cmp, sort_formats};
-pub use reading::{read_sort, read_word};
 pub use row::Row;
 pub use sort_fault::SortFault;
 pub use sort_field::SortField;
 pub use sort_key::SortKey;
 pub use sort_spec::SortSpec;
+pub use sort_words::{SortWords, read_sort};
 
 #[cfg(test)]
 mod tests;

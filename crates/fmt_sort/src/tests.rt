@@ -122,8 +122,8 @@ fn the_first_faulty_piece_answers(rt: HostRuntime) -> Result<(), Fail> {
     Ok(())
 }
 
-fn names(alloc: Global, texts: &[&str], force: bool) -> Result<String, Fail> {
-    let spec = read_sort(alloc, &words(alloc, texts)?, force, false)?;
+/// The names of a specification's fields, with a space behind each.
+fn names(alloc: Global, spec: &SortSpec) -> Result<String, Fail> {
     let mut names = String::new(alloc);
     for field in &spec.fields {
         names.push_str(field.key.name())?;
@@ -132,31 +132,33 @@ fn names(alloc: Global, texts: &[&str], force: bool) -> Result<String, Fail> {
     Ok(names)
 }
 
+const LAST: &str =
+    "lang quality res hdr vcodec channels acodec size br asr proto vext aext hasaud source ";
+
 #[test]
 fn fields_have_their_order(rt: HostRuntime) -> Result<(), Fail> {
-    let rest =
-        "lang quality res hdr vcodec channels acodec size br asr proto vext aext hasaud source ";
-    let mut want = String::from_str(rt.alloc(), "hasvid ie_pref id tbr fps ")?;
-    want.push_str(rest)?;
-    assert_eq!(rt;
-        names(rt.alloc(), &["tbr,fps", "id,tbr"], false)?.as_str(),
-        want.as_str()
-    );
-    let mut want = String::from_str(rt.alloc(), "id tbr fps hasvid ie_pref ")?;
-    want.push_str(rest)?;
-    assert_eq!(rt;
-        names(rt.alloc(), &["tbr,fps", "id,tbr"], true)?.as_str(),
-        want.as_str()
-    );
+    let words = words(rt.alloc(), &["tbr,fps", "id,tbr"])?;
+    for (force, first) in [
+        (false, "hasvid ie_pref id tbr fps "),
+        (true, "id tbr fps hasvid ie_pref "),
+    ] {
+        let spec = read_sort(rt.alloc(), &words, force, false)?;
+        let mut want = String::from_str(rt.alloc(), first)?;
+        want.push_str(LAST)?;
+        assert_eq!(rt; names(rt.alloc(), &spec)?.as_str(), want.as_str());
+    }
     Ok(())
 }
 
 #[test]
-fn a_word_is_read_by_itself(rt: HostRuntime) -> Result<(), Fail> {
-    let (fields, next) = read_word(rt.alloc(), "res:720,codec".as_bytes(), 3, false)?;
-    assert_eq!(rt; fields.len(), 3);
-    assert_eq!(rt; next, 5);
-    let end = read_word(rt.alloc(), "res:720,foo".as_bytes(), 3, false).err();
-    assert_eq!(rt; end, Some(SortFault::Field { piece: 4 }));
+fn words_are_read_one_by_one(rt: HostRuntime) -> Result<(), Fail> {
+    let mut words = SortWords::new(rt.alloc());
+    words.read(rt.alloc(), "res:720,codec")?;
+    let fault = Some(SortFault::Field { piece: 3 });
+    assert_eq!(rt; words.read(rt.alloc(), "fps,foo").err(), fault);
+    words.read(rt.alloc(), "tbr")?;
+    let spec = words.spec(rt.alloc(), true, false)?;
+    let names = names(rt.alloc(), &spec)?;
+    assert!(rt; names.starts_with("tbr res vcodec acodec hasvid "));
     Ok(())
 }

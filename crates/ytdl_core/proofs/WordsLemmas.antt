@@ -80,7 +80,7 @@ over-assoc a b c =
       option_or-assoc a.quiet b.quiet c.quiet,
       add_assoc c.prints b.prints a.prints,
       add_assoc c.pieces b.pieces a.pieces,
-      append_assoc c.sort b.sort a.sort,
+      append_assoc a.sort b.sort c.sort,
     ) refl
 
 pub over-none : (a : Settings) → over a no_settings ≡ a
@@ -92,12 +92,13 @@ over-none a =
       option_or-none a.free,
       option_or-none a.simulate,
       option_or-none a.quiet,
+      append-nil a.sort,
       zero-add a.prints,
       zero-add a.pieces,
     ) refl
 
 pub none-over : (a : Settings) → over no_settings a ≡ a
-none-over a = rw (add-zero a.prints, add-zero a.pieces, append-nil a.sort) refl
+none-over a = rw (add-zero a.prints, add-zero a.pieces) refl
 
 -- a use without a fault sets what it sets
 pub continued-use : (early : Settings) (total : ℕ) (first : Use) (read : Reading) → use_fault early.pieces first ≡ None →

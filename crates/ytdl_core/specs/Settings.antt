@@ -2,8 +2,8 @@
 use Rattle.std.specs.Prelude.{ℕ, ◌+◌, List, [], ◌∷◌, ◌++◌, length, Bool, true, false, nat_lt, if◌then◌else◌, Option, Some, None, is_some, unwrap_or, Result, Ok, Err, codes}
 use Rattle.std.specs.Option.{option_map, option_or}
 use Rattle.std.specs.Str.{bytes_eq}
-use Rattle.fmt_sort.specs.Reading.{pieces_of, pieces_fields, wish_for}
-use Rattle.fmt_sort.specs.Spec.{Wanted, Wish}
+use Rattle.fmt_sort.specs.Reading.{pieces_of, pieces_given, word_given, wish_when}
+use Rattle.fmt_sort.specs.Spec.{Given, Wish}
 use Rattle.fmt_sort.specs.declared.sort_fault.SortFault.{SortFault}
 use Rattle.ytdl_core.specs.declared.meaning.Flag.TheVariants.{Simulate, Quiet, Force, Free}
 use Rattle.ytdl_core.specs.declared.meaning.Valued.{Valued}
@@ -16,11 +16,12 @@ use Rattle.ytdl_core.specs.declared.words_fault.WordsFault.TheVariants.{Bad}
 use Rattle.ytdl_core.specs.Selection.{Selection, pick_of}
 use Rattle.ytdl_core.specs.Uses.{Use, turned, given}
 
--- what uses have set: the file, which format is chosen, the sort words with how many pieces they have, the prints, and each flag
+-- what uses have set: the file, which format is chosen, the fields of the sort words, a later word's first, and how many pieces these words have,
+-- the prints, and each flag
 pub record Settings : Type 0 where
   pub info : Option (List ℕ)
   pub pick : Option Pick
-  pub sort : List (List ℕ)
+  pub sort : List Given
   pub pieces : ℕ
   pub force : Option Bool
   pub free : Option Bool
@@ -51,14 +52,14 @@ abbrev pub fault_of_print : List ℕ → Option OptionFault
 fault_of_print value = if bytes_eq value (codes "filename") then None else Some NotBuilt
 
 -- the fault of an option whose sort word has one
-abbrev pub fault_of_fields : Result (List Wanted) SortFault → Option OptionFault
+abbrev pub fault_of_fields : Result (List Given) SortFault → Option OptionFault
 fault_of_fields (Ok fields) = None
 fault_of_fields (Err fault) = Some (BadSort fault)
 
--- a sort word has its first faulty piece; pieces are counted on from those of earlier words, and free formats change no fault
+-- a sort word has its first faulty piece; pieces are counted on from those of earlier words
 abbrev pub fault_of_sort : ℕ → List ℕ → Option OptionFault
 fault_of_sort pieces [] = Some BadValue
-fault_of_sort pieces (b ∷ bs) = fault_of_fields (pieces_fields false pieces (pieces_of (b ∷ bs)))
+fault_of_sort pieces (b ∷ bs) = fault_of_fields (pieces_given pieces (pieces_of (b ∷ bs)))
 
 -- why an option may not have this value, behind sort words of so many pieces
 abbrev pub fault_of_value : ℕ → Valued → List ℕ → Option OptionFault
@@ -84,7 +85,7 @@ setting_of (turned (Force on)) = record no_settings { force = Some on }
 setting_of (turned (Free on)) = record no_settings { free = Some on }
 setting_of (given place Info file) = record no_settings { info = Some file }
 setting_of (given place Format value) = record no_settings { pick = pick_of value }
-setting_of (given place Sort word) = record no_settings { sort = word ∷ []; pieces = length (pieces_of word) }
+setting_of (given place Sort word) = record no_settings { sort = word_given word; pieces = length (pieces_of word) }
 setting_of (given place Print field) = record no_settings { prints = 1 }
 
 -- the fault of the first use that has one, behind sort words of so many pieces
@@ -97,7 +98,7 @@ abbrev pub over : Settings → Settings → Settings
 over late early = record {
   info = option_or late.info early.info;
   pick = option_or late.pick early.pick;
-  sort = early.sort ++ late.sort;
+  sort = late.sort ++ early.sort;
   pieces = early.pieces + late.pieces;
   force = option_or late.force early.force;
   free = option_or late.free early.free;
@@ -112,27 +113,24 @@ settings_of [] = no_settings
 settings_of (first ∷ rest) = over (settings_of rest) (setting_of first)
 
 -- how formats are sorted by the words that are set: none is forced and no free format is preferred, unless words say so
-abbrev pub wish_of_settings : Settings → Result Wish SortFault
-wish_of_settings settings = wish_for (unwrap_or settings.force false) (unwrap_or settings.free false) settings.sort
+abbrev pub wish_of_settings : Settings → Wish
+wish_of_settings settings = wish_when (unwrap_or settings.force false) (unwrap_or settings.free false) settings.sort
 
--- the options for a file of information and an order of formats; a print is quiet, unless words say otherwise.
--- Sort words without a fault of their own give an order.
-abbrev pub with_wish : ℕ → Settings → List ℕ → Result Wish SortFault → Result Options WordsFault
-with_wish total settings info (Err fault) = Err (Bad total (BadSort fault))
-with_wish total settings info (Ok wish) = Ok (record {
+-- the options for a file of information; a print is quiet, unless words say otherwise
+abbrev pub options_for : Settings → List ℕ → Options
+options_for settings info = record {
   info = info;
-  selection = record { pick = settings.pick; wish = wish };
+  selection = record { pick = settings.pick; wish = wish_of_settings settings };
   prints = settings.prints;
   simulate = true;
   quiet = unwrap_or settings.quiet (nat_lt 0 settings.prints);
-})
+}
 
 -- the options for a file of information: a print simulates, unless words say otherwise
 abbrev pub with_info : ℕ → Settings → Option (List ℕ) → Result Options WordsFault
 with_info total settings None = Err (Bad total NoInfo)
 with_info total settings (Some info) =
-    if unwrap_or settings.simulate (nat_lt 0 settings.prints) then with_wish total settings info (wish_of_settings settings)
-    else Err (Bad total NotBuilt)
+    if unwrap_or settings.simulate (nat_lt 0 settings.prints) then Ok (options_for settings info) else Err (Bad total NotBuilt)
 
 -- the options that are set at the end of so many words, where nothing is missing and a command is built
 abbrev pub ended : ℕ → Settings → Result Options WordsFault

@@ -1,6 +1,6 @@
 -- Faults of values, as they are found: those that a value has by itself, and those of sort words.
-use Rattle.std.specs.Prelude.{◌≡◌, ◌⊎◌, ℕ, List, [], ◌∷◌, Option, Some, None, Result, Err}
-use Rattle.fmt_sort.specs.Spec.{Wanted, Wish}
+use Rattle.std.specs.Prelude.{◌≡◌, ◌⊎◌, ℕ, List, [], ◌∷◌, Option, Some, None, Result}
+use Rattle.fmt_sort.specs.Spec.{Given}
 use Rattle.fmt_sort.specs.declared.sort_fault.SortFault.{SortFault}
 use Rattle.fmt_sort.specs.declared.sort_fault.SortFault.TheVariants as sort
 use Rattle.ytdl_core.specs.declared.meaning.Valued.{Valued}
@@ -30,10 +30,6 @@ fault_by_itself Sort value = fault_of_empty value
 fault_by_itself Print value = fault_of_print value
 
 -- the fault is that of these fields, at this place, or memory ran out
-abbrev pub IsBad : ℕ → Result (List Wanted) SortFault → WordsFault → Type 0
+abbrev pub IsBad : ℕ → Result (List Given) SortFault → WordsFault → Type 0
 IsBad place fields fault =
     (fault ≡ OutOfMemory) ⊎ ((option : OptionFault) × (fault_of_fields fields ≡ Some option) × (fault ≡ Bad place option))
-
--- the same of an order of formats
-abbrev pub IsBadWish : ℕ → Result Wish SortFault → WordsFault → Type 0
-IsBadWish place outcome fault = (fault ≡ OutOfMemory) ⊎ ((sort : SortFault) × (outcome ≡ Err sort) × (fault ≡ Bad place (BadSort sort)))

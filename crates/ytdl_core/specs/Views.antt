@@ -1,4 +1,5 @@
 -- What words have set, and what they ask for, as the program holds it.
+use Rattle.fmt_sort.specs.Read.{given_in, pieces_in}
 use Rattle.fmt_sort.specs.Spec.{wish_of}
 use Rattle.ytdl_core.specs.declared.options.Options.{Options as Held}
 use Rattle.ytdl_core.specs.declared.selection.Selection.{Selection as HeldSelection}
@@ -15,8 +16,8 @@ abbrev pub plain_settings : HeldSettings → Settings
 plain_settings settings = record {
   info = settings.info;
   pick = settings.pick;
-  sort = settings.sort.items;
-  pieces = settings.pieces;
+  sort = given_in settings.sort;
+  pieces = pieces_in settings.sort;
   force = settings.force;
   free = settings.free;
   prints = settings.prints;

@@ -1,9 +1,12 @@
 -- What words ask for: the fault of the first word that has one, or the options that they set.
-use Rattle.std.specs.Prelude.{◌≡◌, ℕ, ◌-◌, List, length, None, Result, Ok}
-use Rattle.std.specs.Result.{IsOk}
+use Rattle.std.specs.Prelude.{◌≡◌, ℕ, ◌-◌, List, [], ◌∷◌, length, false, None, unwrap_or, Result, Ok}
 use Rattle.std.specs.Option.{option_or}
+use Rattle.fmt_sort.specs.Reading.{wish_for}
+use Rattle.fmt_sort.specs.Spec.{Wish}
+use Rattle.fmt_sort.specs.declared.sort_fault.SortFault.{SortFault}
+use Rattle.ytdl_core.specs.declared.meaning.Valued.TheVariants.{Sort}
 use Rattle.ytdl_core.specs.declared.words_fault.WordsFault.{WordsFault}
-use Rattle.ytdl_core.specs.Uses.{Reading, reading}
+use Rattle.ytdl_core.specs.Uses.{Use, given, Reading, reading}
 use Rattle.ytdl_core.specs.Settings.{Options, Settings, first_fault, settings_of, over, ended, unless_fault, wish_of_settings}
 
 -- the first fault of what so many words read as, or their options
@@ -14,9 +17,22 @@ answer_of total read = unless_fault (option_or (first_fault 0 read.uses) read.fa
 unfoldable pub words_of : List (List ℕ) → Result Options WordsFault
 words_of words = answer_of (length words) (reading 0 words)
 
--- Where no use is at fault, the sort words name an order: a preference of free formats, which may come later, brings no fault.
+-- the sort words among uses, in their order
+abbrev pub sort_words : List Use → List (List ℕ)
+sort_words [] = []
+sort_words (given place Sort word ∷ rest) = word ∷ sort_words rest
+sort_words (first ∷ rest) = sort_words rest
+
+-- the order that the sort words of uses name, all read together
+abbrev pub wish_of_uses : List Use → Result Wish SortFault
+wish_of_uses uses =
+    wish_for (unwrap_or (settings_of uses).force false) (unwrap_or (settings_of uses).free false) (sort_words uses)
+
+-- Where no use is at fault, the sort words name an order, and it is the one that is set word by word: force and the preference of free
+-- formats, which may come later, bring no fault.
 abbrev pub HaveAnOrder : List (List ℕ) → Type 0
-HaveAnOrder words = first_fault 0 (reading 0 words).uses ≡ None → IsOk (wish_of_settings (settings_of (reading 0 words).uses))
+HaveAnOrder words =
+    first_fault 0 (reading 0 words).uses ≡ None → wish_of_uses (reading 0 words).uses ≡ Ok (wish_of_settings (settings_of (reading 0 words).uses))
 
 -- the words ask for these options
 abbrev pub Asks : List (List ℕ) → Options → Type 0

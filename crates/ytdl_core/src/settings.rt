@@ -1,14 +1,14 @@
-ghost use Rattle.std.specs.Prelude.{◌≡◌, ◌⊎◌, ◌+◌, ◌-◌, ◌<◌, ◌^◌, IfOk, OnOk, IfErr, Ok, Err, Some, None, false, is_some, unwrap_or};
+ghost use Rattle.std.specs.Prelude.{◌≡◌, ◌⊎◌, ◌+◌, ◌-◌, ◌<◌, ◌^◌, IfOk, OnOk, IfErr, Ok, Err, Some, None, is_some};
 ghost use Rattle.std.specs.Char.{is_ascii_digit};
 ghost use Rattle.std.specs.List.{list_all};
-ghost use Rattle.fmt_sort.specs.Reading.{pieces_of, pieces_fields, wish_for};
-ghost use Rattle.fmt_sort.specs.Spec.{wish_of};
+ghost use Rattle.fmt_sort.specs.Read.{pieces_in};
+ghost use Rattle.fmt_sort.specs.Reading.{pieces_of, pieces_given};
 ghost use Rattle.ytdl_core.specs.declared.meaning.Valued.TheVariants as valued;
 ghost use Rattle.ytdl_core.specs.declared.words_fault.WordsFault.TheVariants as words;
 ghost use Rattle.ytdl_core.specs.Uses.{turned, given};
 ghost use Rattle.ytdl_core.specs.Selection.{pick_of};
 ghost use Rattle.ytdl_core.specs.Settings.{no_settings, over, setting_of, use_fault, fault_of_fields, ended};
-ghost use Rattle.ytdl_core.specs.SortFaults.{IsBad, IsBadWish, at_word, fault_by_itself};
+ghost use Rattle.ytdl_core.specs.SortFaults.{IsBad, at_word, fault_by_itself};
 ghost use Rattle.ytdl_core.specs.Views.{plain_settings, plain_options};
 
 use crate::meaning::{Flag, Valued};
@@ -17,7 +17,7 @@ use crate::pick::Pick;
 use crate::run_fault::OptionFault;
 use crate::selection::Selection;
 use crate::words_fault::{WordsFault, bad};
-use fmt_sort::{SortFault, SortSpec, read_sort, read_word};
+use fmt_sort::{SortFault, SortWords};
 use std::alloc::Global;
 use text_base::{OutOfMemory, Text};
 
@@ -26,10 +26,7 @@ use text_base::{OutOfMemory, Text};
 pub struct Settings {
     pub info: Option<Text>,
     pub pick: Option<Pick>,
-    /// The sort words, in the order given.
-    pub sort: Vec<Text>,
-    /// How many pieces the sort words have.
-    pub pieces: usize,
+    pub sort: SortWords,
     pub force: Option<bool>,
     pub free: Option<bool>,
     pub prints: usize,
@@ -44,8 +41,7 @@ impl Settings {
         Settings {
             info: None,
             pick: None,
-            sort: Vec::new(alloc),
-            pieces: 0,
+            sort: SortWords::new(alloc),
             force: None,
             free: None,
             prints: 0,
@@ -77,9 +73,9 @@ impl Settings {
         requires { self.old.prints < 2 ^ 64 - 1 }
         ensures set { OnOk result (plain_settings self.new
             ≡ over (setting_of (given place option value.now)) (plain_settings self.old)) }
-        ensures good { OnOk result (use_fault self.old.pieces (given place option value.now) ≡ None) }
+        ensures good { OnOk result (use_fault (pieces_in self.old.sort) (given place option value.now) ≡ None) }
         ensures fault { IfErr result (λ fault. (fault ≡ words.OutOfMemory) ⊎
-            (use_fault self.old.pieces (given place option value.now) ≡ Some fault)) }
+            (use_fault (pieces_in self.old.sort) (given place option value.now) ≡ Some fault)) }
     {
         if let Some(fault) = value_fault(option, value) {
             return Err(bad(place, fault));
@@ -93,22 +89,19 @@ impl Settings {
         Ok(())
     }
 
-    /// Puts a sort word behind the others, where its pieces have no fault.
+    /// Reads a sort word behind the others.
     fn gather(&mut self, alloc: Global, place: usize, word: &str) -> Result<(), WordsFault>
         ensures set { OnOk result (plain_settings self.new
             ≡ over (setting_of (given place valued.Sort word.now)) (plain_settings self.old)) }
         ensures good { OnOk result (fault_of_fields
-            (pieces_fields false self.old.pieces (pieces_of word.now)) ≡ None) }
+            (pieces_given (pieces_in self.old.sort) (pieces_of word.now)) ≡ None) }
         ensures fault { IfErr result
-            (IsBad place (pieces_fields false self.old.pieces (pieces_of word.now))) }
+            (IsBad place (pieces_given (pieces_in self.old.sort) (pieces_of word.now))) }
     {
-        let next = match read_word(alloc, word.as_bytes(), self.pieces, false) {
-            Ok((_, next)) => next,
-            Err(fault) => return Err(bad_sort(place, fault)),
-        };
-        self.sort.push(Text::new(alloc, word)?)?;
-        self.pieces = next;
-        Ok(())
+        match self.sort.read(alloc, word) {
+            Ok(()) => Ok(()),
+            Err(fault) => Err(bad_sort(place, fault)),
+        }
     }
 
     /// The options that are set, where nothing is missing.
@@ -136,7 +129,7 @@ impl Settings {
         if !simulates {
             return Err(bad(total, OptionFault::NotBuilt));
         }
-        let sort = sort_of(alloc, &sort, force, free, total)?;
+        let sort = sort.spec(alloc, force.unwrap_or(false), free.unwrap_or(false))?;
         Ok(Options {
             info,
             selection: Selection { pick, sort },
@@ -144,27 +137,6 @@ impl Settings {
             simulate: true,
             quiet,
         })
-    }
-}
-
-/// How formats are sorted by these words; their fault stands at this place.
-fn sort_of(
-    alloc: Global,
-    words: &Vec<Text>,
-    force: Option<bool>,
-    free: Option<bool>,
-    place: usize,
-) -> Result<SortSpec, WordsFault>
-    ensures wish { IfOk result (λ sort. wish_for (unwrap_or force false) (unwrap_or free false) words.now.items
-        ≡ Ok (wish_of sort)) }
-    ensures fault { IfErr result (IsBadWish place
-        (wish_for (unwrap_or force false) (unwrap_or free false) words.now.items)) }
-{
-    let force = force.unwrap_or(false);
-    let free = free.unwrap_or(false);
-    match read_sort(alloc, words, force, free) {
-        Ok(sort) => Ok(sort),
-        Err(fault) => Err(bad_sort(place, fault)),
     }
 }
 

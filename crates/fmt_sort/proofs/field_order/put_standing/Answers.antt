@@ -2,7 +2,7 @@ use Rattle.std.proofs.Common.{◌∙◌, ap, refl, map}
 use Rattle.fmt_sort.specs.Reading.{put, standing}
 use Rattle.fmt_sort.specs.Spec.{wanted_of}
 use Rattle.fmt_sort.proofs.ReadingLemmas.{fold_on}
-use Rattle.fmt_sort.proofs.reading.put_standing.Goals as goal
+use Rattle.fmt_sort.proofs.field_order.put_standing.Goals as goal
 
 pub loop-key-preserved : goal.loop-key-preserved
 loop-key-preserved c =

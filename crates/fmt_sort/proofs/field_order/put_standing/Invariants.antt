@@ -2,7 +2,7 @@ use Rattle.std.proofs.Common.{◌≡◌, map, drop}
 use Rattle.std.specs.Prelude.{fold}
 use Rattle.fmt_sort.specs.Reading.{put, standing}
 use Rattle.fmt_sort.specs.Spec.{wanted_of}
-use Rattle.fmt_sort.proofs.reading.put_standing.Given as goal
+use Rattle.fmt_sort.proofs.field_order.put_standing.Given as goal
 
 -- the fields of the keys so far are put
 abbrev pub invariant-loop-key : goal.invariant-loop-key

@@ -3,7 +3,7 @@ use Rattle.std.specs.Str.{bytes_eq}
 use Rattle.std.specs.List.{list_any}
 use Rattle.fmt_sort.specs.Keys.{name_of}
 use Rattle.fmt_sort.proofs.ReadingLemmas.{put_new, put_again}
-use Rattle.fmt_sort.proofs.reading.put.Goals as goal
+use Rattle.fmt_sort.proofs.field_order.put.Goals as goal
 
 pub returns-in_ok-push : goal.returns-in_ok-push
 returns-in_ok-push c =
