@@ -1,0 +1,5 @@
+pub mod Ends
+pub mod Lane
+pub mod Step
+pub mod Try
+pub mod Turn
