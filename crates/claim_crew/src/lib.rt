@@ -9,6 +9,3 @@ mod worker;
 
 pub use claims::claim_all;
 pub use task::Task;
-
-#[cfg(test)]
-mod tests;

@@ -17,6 +17,3 @@ pub use path::file_path;
 pub use reply::Reply;
 pub use request::read_request;
 pub use serving::serve;
-
-#[cfg(test)]
-mod tests;

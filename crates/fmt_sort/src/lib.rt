@@ -28,6 +28,3 @@ pub use sort_field::SortField;
 pub use sort_key::SortKey;
 pub use sort_spec::SortSpec;
 pub use sort_words::{SortWords, read_sort};
-
-#[cfg(test)]
-mod tests;

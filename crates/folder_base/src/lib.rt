@@ -42,10 +42,3 @@ pub use memory::FolderMem;
 pub use store_fault::StoreFault;
 pub use taker::Taker;
 pub use text_base::FolderCall;
-
-#[cfg(test)]
-mod many_parts_tests;
-#[cfg(test)]
-mod stop_tests;
-#[cfg(test)]
-mod tests;

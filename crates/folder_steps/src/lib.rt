@@ -20,6 +20,3 @@ pub use pouring::pour;
 pub use refusal::store_fault;
 pub use replacing::{publish_new, replace};
 pub use settling::settle;
-
-#[cfg(test)]
-mod tests;

@@ -24,8 +24,3 @@ pub use lazy::View;
 pub use reader::read_items;
 pub use values::Values;
 pub use whole::view;
-
-#[cfg(test)]
-mod tests;
-#[cfg(test)]
-mod view_tests;

@@ -22,12 +22,3 @@ pub use reader::read_tree;
 pub use style::Style;
 pub use tree::{Tree, TreeList, TreeMap};
 pub use tree_fault::TreeFault;
-
-#[cfg(test)]
-mod copy_tests;
-#[cfg(test)]
-mod json_tests;
-#[cfg(test)]
-mod tests;
-#[cfg(test)]
-mod tree_tests;

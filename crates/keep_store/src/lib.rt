@@ -18,8 +18,3 @@ mod taking;
 pub use lane::Lane;
 pub use lane_refused::LaneRefused;
 pub use publishing::publish;
-
-#[cfg(test)]
-mod stop_tests;
-#[cfg(test)]
-mod tests;

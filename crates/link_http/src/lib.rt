@@ -44,6 +44,3 @@ pub use laws::pages_are_fetched;
 pub use page::Page;
 pub use piece::Piece;
 pub use turn::Turn;
-
-#[cfg(test)]
-mod tests;

@@ -16,6 +16,3 @@ pub use path::{PathFault, check_path};
 pub use quoting::{html_escape, shell_quote};
 pub use suffix::decimal_suffix;
 pub use unicode_normalization::Form;
-
-#[cfg(test)]
-mod tests;

@@ -9,6 +9,3 @@ mod turn;
 pub use laws::{bad_urls_fail, each_failure_has_a_cause};
 pub use piece_end::PieceEnd;
 pub use turn::fetch_piece;
-
-#[cfg(test)]
-mod tests;

@@ -12,6 +12,3 @@ pub use names::{
     name_room, write_joined, write_pieces, write_promise, write_record, write_spare, write_stem,
 };
 pub use plan::plan_text;
-
-#[cfg(test)]
-mod tests;

@@ -22,6 +22,3 @@ pub use pick::{Media, Pick};
 pub use reading::read_sel;
 pub use sel::Sel;
 pub use sel_fault::SelFault;
-
-#[cfg(test)]
-mod tests;

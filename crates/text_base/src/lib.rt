@@ -34,6 +34,3 @@ pub use scan::{first_json_special, first_name_special, json_special_32, name_spe
 pub use size::{size_of_bytes, size_value};
 pub use spaces::{trimmed, trimmed_bytes, without_first_spaces, without_last_spaces};
 pub use text::Text;
-
-#[cfg(test)]
-mod tests;

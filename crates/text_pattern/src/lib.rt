@@ -8,6 +8,3 @@ mod pattern;
 pub use fault::PatternFault;
 pub use finder::Finder;
 pub use pattern::Pattern;
-
-#[cfg(test)]
-mod tests;

@@ -38,8 +38,3 @@ pub use sink_mem::SinkMem;
 pub use source::InfoSource;
 pub use words::read_words;
 pub use words_fault::WordsFault;
-
-#[cfg(test)]
-mod tests;
-#[cfg(test)]
-mod word_tests;

@@ -1,0 +1,6 @@
+#![tactic(auto)]
+
+#[cfg(test)]
+mod sel_lang_tests;
+#[cfg(test)]
+mod text_pattern_tests;

@@ -1,0 +1,4 @@
+#![tactic(auto)]
+
+#[cfg(test)]
+mod name_text_tests;
