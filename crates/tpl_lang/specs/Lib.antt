@@ -1,3 +1,9 @@
+pub mod Bytes
+pub mod ExprReading
 pub mod Exprs
+pub mod FieldReading
 pub mod Fields
+pub mod Ints
+pub mod Keys
 pub mod Paths
+pub mod Reading
