@@ -1,4 +1,5 @@
+//! Tests of texts in names and printed lines.
 #![tactic(auto)]
 
 #[cfg(test)]
-mod name_text_tests;
+mod names;
