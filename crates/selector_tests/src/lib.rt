@@ -1,6 +1,7 @@
+//! Tests of patterns and of the reading of selectors.
 #![tactic(auto)]
 
 #[cfg(test)]
-mod sel_lang_tests;
+mod patterns;
 #[cfg(test)]
-mod text_pattern_tests;
+mod selectors;
