@@ -1,10 +1,11 @@
+//! Tests of workers, of tries over HTTP, of a piece's tries, and of what the server of files answers.
 #![tactic(auto)]
 
 #[cfg(test)]
-mod claim_crew_tests;
+mod crews;
 #[cfg(test)]
-mod file_server_tests;
+mod served;
 #[cfg(test)]
-mod link_http_tests;
+mod tries;
 #[cfg(test)]
-mod piece_turn_tests;
+mod turns;

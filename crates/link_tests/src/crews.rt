@@ -3,7 +3,7 @@ ghost use Rattle.std.specs.Prelude.{◌≡◌, ℕ, ◌+◌, ◌%◌, ◌^◌, n
 
 use claim_crew::{Task, claim_all};
 use std::sync::atomic::{AtomicU64, Ordering};
-use std::test::*;
+use std::test::Fail;
 
 // Adds the item's number to the item, and counts in the hand; an item above 1000 failed.
 #[derive(Drop)]
@@ -25,50 +25,28 @@ impl Task<u64, u64> for Adding {
 
 #[test]
 fn three_workers_work_on_each_item_once(rt: HostRuntime) -> Result<(), Fail> {
-    let alloc = rt.alloc();
-    let items = vec![in alloc; 0, 1, 2, 3, 4, 5, 6, 7, 8, 9, 10, 11]?;
-    let mut hands = vec![in alloc; 0, 0, 0]?;
-    match claim_all(&rt, alloc, &Adding, items, hands.as_mut_slice(), 3) {
-        Ok(back) => {
-            let want = vec![in alloc; 0, 2, 4, 6, 8, 10, 12, 14, 16, 18, 20, 22]?;
-            assert!(rt; back == want);
-            assert_eq!(rt; hands[0].wrapping_add(hands[1]).wrapping_add(hands[2]), 12);
-        }
-        Err(_) => assert!(rt; false),
-    }
+    let items = vec![in rt.alloc(); 0, 1, 2, 3, 4, 5, 6, 7, 8, 9, 10, 11]?;
+    let mut hands = [0, 0, 0];
+    let back = claim_all(&rt, rt.alloc(), &Adding, items, &mut hands, 3)
+        .ok()
+        .ok_or("no memory")?;
+    assert_eq!(rt;
+        back.as_slice(),
+        [0, 2, 4, 6, 8, 10, 12, 14, 16, 18, 20, 22].as_slice()
+    );
+    assert_eq!(rt; hands[0].wrapping_add(hands[1]).wrapping_add(hands[2]), 12);
     Ok(())
 }
 
 #[test]
 fn one_worker_stops_at_its_failure(rt: HostRuntime) -> Result<(), Fail> {
-    let alloc = rt.alloc();
-    let items = vec![in alloc; 0, 5000, 7]?;
-    let mut hands = vec![in alloc; 0, 9]?;
-    match claim_all(&rt, alloc, &Adding, items, hands.as_mut_slice(), 1) {
-        Ok(back) => {
-            let want = vec![in alloc; 0, 5001, 7]?;
-            assert!(rt; back == want);
-            assert_eq!(rt; hands[0], 2);
-            assert_eq!(rt; hands[1], 9);
-        }
-        Err(_) => assert!(rt; false),
-    }
-    Ok(())
-}
-
-#[test]
-fn no_item(rt: HostRuntime) -> Result<(), Fail> {
-    let alloc = rt.alloc();
-    let items: Vec<u64> = Vec::new(alloc);
-    let mut hands = vec![in alloc; 4, 5]?;
-    match claim_all(&rt, alloc, &Adding, items, hands.as_mut_slice(), 2) {
-        Ok(back) => {
-            assert!(rt; back.is_empty());
-            assert_eq!(rt; hands[0], 4);
-            assert_eq!(rt; hands[1], 5);
-        }
-        Err(_) => assert!(rt; false),
-    }
+    let items = vec![in rt.alloc(); 0, 5000, 7]?;
+    let mut hands = [0, 9];
+    let back = claim_all(&rt, rt.alloc(), &Adding, items, &mut hands, 1)
+        .ok()
+        .ok_or("no memory")?;
+    assert_eq!(rt; back.as_slice(), [0, 5001, 7].as_slice());
+    assert_eq!(rt; hands, [2, 9]);
     Ok(())
 }
 
@@ -131,23 +109,20 @@ impl Task<u64, u64> for Waiting {
 // A hand of 1 has waited in vain: the schedule kept the other back, and the run shows nothing.
 #[test]
 fn who_has_seen_the_flag_draws_no_more(rt: HostRuntime) -> Result<(), Fail> {
-    let alloc = rt.alloc();
-    let items = vec![in alloc; 5000, 0, 0, 0]?;
-    let mut hands = vec![in alloc; 0, 0]?;
+    let items = vec![in rt.alloc(); 5000, 0, 0, 0]?;
+    let mut hands = [0, 0];
     let task = Waiting {
         begun: AtomicU64::new(0),
         failed: AtomicU64::new(0),
     };
-    match claim_all(&rt, alloc, &task, items, hands.as_mut_slice(), 2) {
-        Ok(back) => {
-            assert!(rt; back.first() == Some(&5000));
-            assert!(rt;
-                hands[0] == 1
-                    || hands[1] == 1
-                    || (back.get(2) == Some(&0) && back.get(3) == Some(&0))
-            );
-        }
-        Err(_) => assert!(rt; false),
-    }
+    let back = claim_all(&rt, rt.alloc(), &task, items, &mut hands, 2)
+        .ok()
+        .ok_or("no memory")?;
+    assert!(rt;
+        back.as_slice() == [5000, 0, 0, 0].as_slice()
+            || back.as_slice() == [5000, 1, 0, 0].as_slice()
+            || hands[0] == 1
+            || hands[1] == 1
+    );
     Ok(())
 }

@@ -1,5 +1,5 @@
-//! Worked requests, paths and heads. The shell over sockets is tested by the crate of the program `ytdl`.
-use file_server::*;
+//! Worked requests, paths and heads of the server of files. Its shell over sockets is tried by `whole_tests`.
+use file_server::{ByteRange, Reply, file_path, read_request};
 use std::test::Fail;
 
 const FROM_THREE: ByteRange = ByteRange {
@@ -67,31 +67,35 @@ fn replies_of_six_bytes(rt: HostRuntime) -> Result<(), Fail> {
         first: 3,
         last: Some(2),
     };
-    for (range, head) in [
+    for (range, size, head) in [
         (
             None,
+            Some(6),
             "HTTP/1.1 200 OK\r\nContent-Length: 6\r\nConnection: close\r\n\r\n",
         ),
         (
             Some(back),
+            Some(6),
             "HTTP/1.1 200 OK\r\nContent-Length: 6\r\nConnection: close\r\n\r\n",
         ),
         (
             Some(FROM_THREE),
+            Some(6),
             "HTTP/1.1 206 Partial Content\r\nContent-Range: bytes 3-5/6\r\nContent-Length: 3\r\nConnection: close\r\n\r\n",
         ),
         (
             Some(past),
+            Some(6),
             "HTTP/1.1 416 Range Not Satisfiable\r\nContent-Range: bytes */6\r\nContent-Length: 0\r\nConnection: close\r\n\r\n",
         ),
+        (
+            Some(past),
+            None,
+            "HTTP/1.1 404 Not Found\r\nContent-Length: 0\r\nConnection: close\r\n\r\n",
+        ),
     ] {
-        let text = Reply::new(range, Some(6)).head(rt.alloc())?;
+        let text = Reply::new(range, size).head(rt.alloc())?;
         assert_eq!(rt; text.as_slice(), head.as_bytes());
     }
-    let absent = Reply::new(Some(past), None).head(rt.alloc())?;
-    assert_eq!(rt;
-        absent.as_slice(),
-        b"HTTP/1.1 404 Not Found\r\nContent-Length: 0\r\nConnection: close\r\n\r\n".as_slice()
-    );
     Ok(())
 }

@@ -1,6 +1,6 @@
 //! Tries over a dialer in memory.
 use super::sink::Sink;
-use link_http::*;
+use link_http::{DialerMem, Fetched, Page, Piece, PieceFault, Turn, fetch_from, leads_over_http};
 use std::alloc::Global;
 use std::process::Abort;
 use std::test::Fail;
@@ -51,9 +51,7 @@ fn turns_are_taken(rt: HostRuntime) -> Result<(), Fail> {
     let rt = &rt;
     let url = "http://127.0.0.1/v?q#top";
     let total = Ok(Fetched { total: 6 });
-    first_gives(rt, Turn::Honest, url, 0, total, b"abcdef")?;
     first_gives(rt, Turn::Honest, url, 3, total, b"def")?;
-    first_gives(rt, Turn::Honest, url, 6, total, b"")?;
     first_gives(rt, Turn::Whole, url, 3, total, b"def")?;
     let cut = Err(PieceFault::CutShort {
         got: 3,
@@ -68,7 +66,6 @@ fn turns_are_taken(rt: HostRuntime) -> Result<(), Fail> {
         Err(PieceFault::Status { code: 503 }),
         b"",
     )?;
-    first_gives(rt, Turn::DialFails, url, 0, Err(PieceFault::Dial), b"")?;
     first_gives(rt, Turn::SendFails, url, 0, Err(PieceFault::Send), b"")?;
     first_gives(rt, Turn::RecvFails(0), url, 0, Err(PieceFault::Recv), b"")?;
     // What one recv brought whole is not waited for any longer.
@@ -103,10 +100,13 @@ fn urls_are_judged_before_the_dial(rt: HostRuntime) -> Result<(), Fail> {
 
 #[test]
 fn urls_lead_over_http(rt: HostRuntime) -> Result<(), Fail> {
-    let alloc = rt.alloc();
-    assert_eq!(rt; leads_over_http(alloc, "http://127.0.0.1:8080/v?q")?, true);
-    assert_eq!(rt; leads_over_http(alloc, "https://127.0.0.1/v?q")?, false);
-    assert_eq!(rt; leads_over_http(alloc, "/v?q")?, false);
+    for (url, leads) in [
+        ("http://127.0.0.1:8080/v?q", true),
+        ("https://127.0.0.1/v?q", false),
+        ("/v?q", false),
+    ] {
+        assert_eq!(rt; leads_over_http(rt.alloc(), url)?, leads, "{url}");
+    }
     Ok(())
 }
 
@@ -137,5 +137,6 @@ fn later_dials_are_honest(rt: HostRuntime) -> Result<(), Fail> {
     assert_eq!(rt; sink.bytes.as_slice(), b"abcdef".as_slice());
     assert_eq!(rt; dialer.asked().len(), 2);
     super::crosses_threads(&dialer);
+    super::crosses_threads(&piece);
     Ok(())
 }

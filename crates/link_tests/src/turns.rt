@@ -3,10 +3,10 @@ ghost use Rattle.std.specs.Prelude.{◌≤◌, IfOk};
 ghost use Rattle.keep_store.specs.Seen.{lane_seen};
 ghost use Rattle.piece_turn.specs.Lane.{IsAsOpened};
 
-use piece_turn::{PieceEnd, fetch_piece};
 use folder_base::{File, FolderCall, FolderMem};
 use keep_store::Lane;
 use link_http::{DialerMem, Page, Piece, PieceFault, Turn};
+use piece_turn::{PieceEnd, fetch_piece};
 use std::alloc::Global;
 use std::process::Abort;
 use std::test::Fail;

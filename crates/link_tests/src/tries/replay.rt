@@ -1,7 +1,7 @@
 //! A dialer that replays one reply, in pieces of one size.
 ghost use Rattle.std.specs.Prelude.{[], Some, None, false, if◌then◌else◌};
 
-use link_http::dialer::Dialer;
+use link_http::Dialer;
 use text_base::{Failed, FolderFault};
 
 #[derive(Drop)]
