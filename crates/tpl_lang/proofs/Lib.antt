@@ -1,3 +1,13 @@
+pub mod AgainLemmas
 pub mod CutLemmas
+pub mod ExprAgain
+pub mod ExprSpells
+pub mod FieldAgain
+pub mod FieldSpells
 pub mod IntLemmas
+pub mod PathAgain
+pub mod PathSpells
 pub mod PlainLemmas
+pub mod ReadingAgain
+pub mod ReadingSpells
+pub mod SpellsLemmas

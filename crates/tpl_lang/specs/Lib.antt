@@ -7,3 +7,4 @@ pub mod Ints
 pub mod Keys
 pub mod Paths
 pub mod Reading
+pub mod Spelled

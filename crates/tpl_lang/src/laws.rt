@@ -1,0 +1,16 @@
+//! Laws of the reading.
+
+ghost use Rattle.std.specs.Prelude.{◌≡◌, ℕ, List, Ok};
+ghost use Rattle.tpl_lang.specs.Reading.{template_of};
+ghost use Rattle.tpl_lang.specs.Spelled.{IsSpelled};
+ghost use Rattle.tpl_lang.specs.declared.template.Part.{Part as PartView};
+
+/// What is accepted is spelled so.
+pub fn accepted_is_spelled()
+    ensures { (text : List ℕ) (parts : List PartView) → template_of text ≡ Ok parts → IsSpelled text parts }
+{}
+
+/// What is spelled so is accepted, so a text has one list of parts.
+pub fn spelled_is_accepted()
+    ensures { (text : List ℕ) (parts : List PartView) → IsSpelled text parts → template_of text ≡ Ok parts }
+{}
