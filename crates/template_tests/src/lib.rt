@@ -1,5 +1,7 @@
-//! Tests of texts in names and printed lines.
+//! Tests of templates, and of texts in names and printed lines.
 #![tactic(auto)]
 
 #[cfg(test)]
 mod names;
+#[cfg(test)]
+mod templates;
