@@ -1,18 +1,11 @@
+//! Tests of texts, numbers, trees, items, and how formats are sorted.
 #![tactic(auto)]
 
 #[cfg(test)]
-mod fmt_sort_tests;
+mod items;
 #[cfg(test)]
-mod info_item_tests;
+mod sorted;
 #[cfg(test)]
-mod info_item_view_tests;
+mod texts;
 #[cfg(test)]
-mod info_tree_copy_tests;
-#[cfg(test)]
-mod info_tree_json_tests;
-#[cfg(test)]
-mod info_tree_tests;
-#[cfg(test)]
-mod info_tree_tree_tests;
-#[cfg(test)]
-mod text_base_tests;
+mod trees;
