@@ -28,6 +28,14 @@ below_one k n = (one n).1
         (λ e. let z : is_at k m ≡ 1 = ap {B = ℕ} (λ b. cond b 1 0) (eq-eqb m k e) in (λ le. absurd (omega (arith, e, le)), omega (arith, z, (one m).0 (omega (arith, e)))))
         (λ ne. let z : is_at k m ≡ 0 = ap {B = ℕ} (λ b. cond b 1 0) (ne_eqb m k ne) in (λ le. omega (arith, z, (one m).0 (omega (arith, le))), omega (arith, z, (one m).1)))
 
+-- Where the sums are those of the numbers below n, each of these stands in the list.
+pub stands_somewhere : (l : List ℕ) (n k : ℕ) → ((f : ℕ → ℕ) → sum_of f l ≡ sum_below f n) → k < n → (i : ℕ) × (get_elem? l i ≡ some k)
+stands_somewhere l n k once lt =
+    let one : is_at k k ≡ 1 = ap {B = ℕ} (λ b. cond b 1 0) (eq-eqb k k refl) in
+    let there : 0 < is_at k k = omega (arith, one) in
+    let w = sum_of_some (is_at k) l (omega (arith, once (is_at k), below_at (is_at k) k n lt there)) in
+    (w.0, subst (λ (m : ℕ). get_elem? l w.0 ≡ some m) (only_at k w.1 w.3) w.2)
+
 -- a number that stands at two places weighs two
 two_places : (k : ℕ) (l : List ℕ) (i j : ℕ) → i < j → get_elem? l i ≡ some k → get_elem? l j ≡ some k → 2 ≤ sum_of (is_at k) l
 two_places k [] i j lt at at' = absurd (some-ne-none k (sym at))
@@ -79,10 +87,8 @@ module _ {T H : Type 0} (does : ℕ → T → H → T → H → Type 0) (xs ys :
   -- Each item below the count was worked on.
   pub each_drawn : (fails : T → Bool) (ds es : List H) (c : Claimed does fails xs ys ds es) (k : ℕ) → k < c.count → WorkedOn k
   each_drawn fails ds es c k lt =
-      let one : is_at k k ≡ 1 = ap {B = ℕ} (λ b. cond b 1 0) (eq-eqb k k refl) in
-      let there : 0 < is_at k k = omega (arith, one) in
-      let w = sum_of_some (is_at k) (joined_all c.logs) (omega (arith, c.once (is_at k), below_at (is_at k) k c.count lt there)) in
-      in_all c.logs ds es w.0 k c.ran (subst (λ (n : ℕ). get_elem? (joined_all c.logs) w.0 ≡ some n) (only_at k w.1 w.3) w.2)
+      let w = stands_somewhere (joined_all c.logs) c.count k c.once lt in
+      in_all c.logs ds es w.0 k c.ran w.1
 
   -- What each work adds to a hand, added up over all items, is in the hands.
   module _ (cost : ℕ → ℕ) (size : H → ℕ) (adds : (k : ℕ) (x y : T) (h g : H) → slice_get xs k ≡ Some x → slice_get ys k ≡ Some y → does k x h y g → cost k + size h ≤ size g) where

@@ -1,6 +1,6 @@
 -- Tries one after the other.
-use Rattle.std.proofs.Common.{◌≡◌, ◌⊎◌, inl, inr, ⊎_elim, ℕ, ◌+◌, ◌-◌, ◌^◌, ◌≤◌, min, Bool, true, false, cond, List, [], ◌∷◌, ◌++◌, length, refl, sym, ◌∙◌, ap, subst, arith, append_assoc}
-use Rattle.std.specs.Prelude.{Option, Some, None, IsTrue, Result, Ok, Err, All, MatchBool}
+use Rattle.std.proofs.Common.{◌≡◌, ℕ, ◌+◌, ◌-◌, ◌^◌, ◌≤◌, min, Bool, true, false, cond, List, [], ◌∷◌, ◌++◌, length, refl, sym, ◌∙◌, ap, subst, arith, append_assoc, length-append}
+use Rattle.std.specs.Prelude.{Option, IsTrue, Result, Ok, Err, All, MatchBool}
 use Rattle.std.specs.List.{flat_map}
 use Rattle.std.proofs.lemmas.List.{append-nil}
 use Rattle.std.proofs.lemmas.List.Sums.{sum_by-cons}
@@ -9,22 +9,23 @@ use Rattle.folder_base.specs.Disk.{Bytes}
 use Rattle.folder_base.specs.declared.store_fault.StoreFault.{StoreFault}
 use Rattle.folder_base.specs.declared.store_fault.StoreFault.TheVariants as store
 use Rattle.http_reply.specs.Truth.{IsTruthful}
+use Rattle.http_reply.specs.Verdict.{Verdict, IsVerdict}
 use Rattle.http_reply.specs.declared.piece_fault.PieceFault.{PieceFault}
 use Rattle.http_reply.specs.declared.piece_fault.PieceFault.TheVariants.{Url, Scheme}
 use Rattle.link_http.specs.declared.fetched.Fetched.{Fetched}
 use Rattle.link_http.specs.declared.piece.Piece.{Piece}
 use Rattle.link_http.specs.Request.{address}
-use Rattle.link_http.specs.Taking.{names_call, of_store}
+use Rattle.link_http.specs.Taking.{names_call, is_judged, of_store}
 use Rattle.link_http.specs.Try.{OfAddress, IsPaired}
 use Rattle.link_http.specs.Wire.{Wire, Talk}
-use Rattle.keep_store.specs.Calls.{Checkpoints, EndsPiece}
+use Rattle.keep_store.specs.Calls.{Checkpoints}
 use Rattle.keep_store.specs.Promise.{AreFirst}
 use Rattle.keep_store.specs.Lane.{Seen, Has, Took}
 use Rattle.keep_store.specs.TookLaws.{took_none, took_both}
 use Rattle.piece_turn.specs.Lane.{IsAsOpened, IsSamePiece}
-use Rattle.piece_turn.specs.Try.{Try, answer, answer_of, calls_for_another, is_retried, unless_folder, is_url_fault, Asks, Knows, AreTruthful}
-use Rattle.piece_turn.specs.Step.{At, EndsTry, Tried, TellsTry, GaveTruth}
-use Rattle.piece_turn.specs.Turn.{StartFrom, KnowInTurn, failed_calls, StaysDialer}
+use Rattle.piece_turn.specs.Try.{Try, answer, answer_of, calls_for_another, is_retried, unless_folder, is_url_fault, Asks, AreTruthful}
+use Rattle.piece_turn.specs.Step.{At, EndsTry, Tried}
+use Rattle.piece_turn.specs.Turn.{StartFrom, NextBehind, EachBehind, KnowInTurn, failed_calls, StaysDialer}
 use Rattle.piece_turn.proofs.LaneLemmas.{same_none, same_both, same_took, same_finished, has_size}
 
 -- the tries, each from what the one before left
@@ -168,6 +169,43 @@ pub starts_all : (piece : Piece) (tries : List Try) (old new : At) → AllTried 
 starts_all piece [] old new same = tt
 starts_all piece (t ∷ tries) old new all =
     (omega (arith, all.1.from), start_later t.from all.0.lane.promised tries (omega (arith, all.1.from, (tried_same all.1).later)) (starts_all piece tries all.0 new all.2))
+
+-- Where no call failed, all that the reply to a try gave is promised as the next begins.
+reached : {piece : Piece} {t : Try} {old new : At} (tried : Tried piece t old new) → CallsOn t → IsAsOpened old.lane → IsTrue new.wire.tells → IsTrue new.lane.world.tells → (had : Bytes) → Has old.lane had
+    → (talk : Talk) (verdict : Verdict) → t.talks ≡ talk ∷ [] → IsVerdict t.from t.known talk.reply verdict → IsTrue (is_judged t.gave) → new.lane.promised ≡ t.from + length verdict.bytes
+reached {piece} {t} {old} {new} tried calls opened wt lt had has talk verdict one is judged =
+    let check = checked tried calls in
+    let took = tried.judged wt judged talk verdict one is in
+    let came = check.taken.has lt (had ++ verdict.bytes) (took.has (check.taken.folder.tells lt) had has) in
+    omega (
+      arith,
+      check.promised,
+      has_size came check.free,
+      has_size has opened.ready,
+      opened.promised,
+      tried.from,
+      length-append (had ++ verdict.bytes) [],
+      length-append had verdict.bytes,
+    )
+
+next_behind : (piece : Piece) (t : Try) (tries : List Try) (last : Try) (at mid : At) → AllTried piece tries at mid → last.from ≡ mid.lane.promised
+    → ((talk : Talk) (verdict : Verdict) → t.talks ≡ talk ∷ [] → IsVerdict t.from t.known talk.reply verdict → IsTrue (is_judged t.gave) → at.lane.promised ≡ t.from + length verdict.bytes)
+    → NextBehind t (tries ++ last ∷ [])
+next_behind piece t [] last at mid same from reach = λ talk verdict one is judged. from ∙ ap (λ (s : At). s.lane.promised) (sym same) ∙ reach talk verdict one is judged
+next_behind piece t (u ∷ us) last at mid all from reach = λ talk verdict one is judged. all.1.from ∙ reach talk verdict one is judged
+
+-- Each try asks from behind what the one before gave.
+pub each_behind : (piece : Piece) (tries : List Try) (last : Try) (old mid : At) → AllTried piece tries old mid → All CallsOn tries → IsAsOpened old.lane → IsTrue mid.wire.tells → IsTrue mid.lane.world.tells
+    → (had : Bytes) → Has old.lane had → last.from ≡ mid.lane.promised → EachBehind (tries ++ last ∷ [])
+each_behind piece [] last old mid same calls opened wt lt had has from = (tt, tt)
+each_behind piece (t ∷ tries) last old mid all calls opened wt lt had has from =
+    let on = All-head CallsOn t tries calls in
+    let later = All-tail CallsOn t tries calls in
+    let passed = passed_one all.1 on in
+    let told = (passed_all piece tries all.0 mid all.2 later passed.opened).took.folder.tells lt in (
+      next_behind piece t tries last all.0 mid all.2 from (reached all.1 on opened ((dialer_all piece tries all.0 mid all.2).tells wt) told had has),
+      each_behind piece tries last all.0 mid all.2 later passed.opened wt lt (had ++ passed.bytes) (passed.took.has told had has) from,
+    )
 
 -- The lane stays the same piece's.
 pub same_all : (piece : Piece) (tries : List Try) (old new : At) → AllTried piece tries old new → IsSamePiece old.lane new.lane

@@ -1,12 +1,12 @@
 -- A verdict that names a place where the reply was cut short names the place where its bytes end.
-use Rattle.std.proofs.Common.{◌≡◌, ℕ, ◌+◌, ◌-◌, ◌≤◌, ◌<◌, Bool, true, false, List, [], length, take, drop, refl, sym, ◌∙◌, ap, subst, arith, length-take, min, leb-true, leb-false}
+use Rattle.std.proofs.Common.{◌≡◌, ℕ, ◌+◌, ◌-◌, ◌≤◌, ◌<◌, Bool, true, false, List, length, take, drop, refl, sym, ◌∙◌, ap, subst, arith, length-take, leb-true, leb-false}
 use Rattle.std.specs.Prelude.{Option, Some, None, Result, Ok, Err, nat_le, nat_lt, ◌==◌, ◌||◌, not, if◌then◌else◌}
 use Rattle.httparse.specs.Grammar.{status_code}
 use Rattle.http_reply.specs.Chunked.{limit, chunks}
 use Rattle.http_reply.specs.Content.{Content, sized}
 use Rattle.http_reply.specs.Heads.{HeadsEnd, final, bad, long, short}
 use Rattle.http_reply.specs.Fields.{Fields, fields_of, length_told, has_no_length_but, is_encoded, is_chunked, content_range}
-use Rattle.http_reply.specs.Verdict.{Verdict, IsVerdict, heads_verdict, judge, judge_200, judge_206, judge_416, judged_verdict, plan_verdict, refuse, accept, refuse_or, with_total, total_fault, changes, chunked_verdict, total_end, fault_or, got_after, sized_end, ranged_end, ranged_content, stop_fault}
+use Rattle.http_reply.specs.Verdict.{Verdict, IsVerdict, heads_verdict, judge, judge_200, judge_206, judge_416, judged_verdict, plan_verdict, refuse, accept, refuse_or, with_total, changes, chunked_verdict, total_end, fault_or, got_after, sized_end, ranged_end, ranged_content, stop_fault}
 use Rattle.http_reply.specs.declared.judged.Judged.{Judged}
 use Rattle.http_reply.specs.declared.plan.Plan.{Plan}
 use Rattle.http_reply.specs.declared.plan.Plan.TheVariants.{Nothing, Whole, Ranged}
@@ -15,7 +15,7 @@ use Rattle.http_reply.specs.declared.range.Range.TheVariants.{Part, Open, Past, 
 use Rattle.http_reply.specs.declared.stop.Stop.{Stop}
 use Rattle.http_reply.specs.declared.stop.Stop.TheVariants.{Last, Cut, Bad, Long}
 use Rattle.http_reply.specs.declared.piece_fault.PieceFault.{PieceFault}
-use Rattle.http_reply.specs.declared.piece_fault.PieceFault.TheVariants.{Dial, Send, Recv, Status, CutShort, BadHead, HeadLong, NoLength, BadRange, SizeChanged, Encoded, Url, Scheme, Folder, OutOfMemory, PieceLong}
+use Rattle.http_reply.specs.declared.piece_fault.PieceFault.TheVariants.{Status, CutShort, BadHead, HeadLong, BadRange, SizeChanged, Encoded, PieceLong}
 
 -- where the end is that the reply was cut short, it was at this place
 abbrev CutsAt : ℕ → Result ℕ PieceFault → Type 0

@@ -1,9 +1,8 @@
 -- Where the cause of a piece that failed comes from.
-use Rattle.std.proofs.Common.{◌≡◌, ◌≢◌, ◌⊎◌, inl, inr, ⊎_elim, ℕ, ◌+◌, ◌-◌, ◌^◌, ◌<◌, ◌≤◌, min, Bool, true, false, not, cond, List, [], ◌∷◌, ◌++◌, length, refl, sym, ◌∙◌, ap, subst, arith}
-use Rattle.std.specs.Prelude.{Option, Some, None, IsTrue, IsFalse, Result, Ok, Err, All}
-use Rattle.std.proofs.lemmas.List.Elements.{All-head, All-tail}
+use Rattle.std.proofs.Common.{◌≡◌, ◌≢◌, ◌⊎◌, inl, inr, ⊎_elim, ℕ, ◌+◌, ◌<◌, Bool, true, false, not, cond, List, [], ◌∷◌, ◌++◌, length, refl, sym, ◌∙◌, ap, subst, arith}
+use Rattle.std.specs.Prelude.{IsTrue, Result, Ok, Err, All}
+use Rattle.std.proofs.lemmas.List.Elements.{All-head}
 use Rattle.text_base.specs.Causes.{Rose}
-use Rattle.text_base.specs.declared.faults.FolderCall.{FolderCall}
 use Rattle.folder_base.specs.declared.store_fault.StoreFault.{StoreFault}
 use Rattle.folder_base.specs.declared.store_fault.StoreFault.TheVariants as store
 use Rattle.http_reply.specs.Faults.{Origin, of_asking, of_hearing, of_taking, of_url, of_reply, origin, dials, replies, breaks, is_call, is_cause}
@@ -17,12 +16,12 @@ use Rattle.link_http.specs.Try.{OfAddress}
 use Rattle.link_http.specs.Wire.{Wire}
 use Rattle.keep_store.specs.Lane.{Seen}
 use Rattle.piece_turn.specs.declared.piece_end.PieceEnd.{PieceEnd}
-use Rattle.piece_turn.specs.declared.piece_end.PieceEnd.TheVariants.{Done, Failed, NotBegun}
-use Rattle.piece_turn.specs.Try.{Try, answer, answer_of, calls_for_another, is_retried, unless_folder, is_url_fault, may_differ, comes_from_url, Asks, AsksAt, AskedOnce, AskedNothing}
+use Rattle.piece_turn.specs.declared.piece_end.PieceEnd.TheVariants.{Done, Failed}
+use Rattle.piece_turn.specs.Try.{Try, answer, answer_of, calls_for_another, is_retried, unless_folder, is_url_fault, may_differ, comes_from_url, Asks, AsksAt}
 use Rattle.piece_turn.specs.Turn.{end_of, failed_calls, Ends, EndsBy, TakesTurn}
 use Rattle.piece_turn.specs.Ends.{HasCause, IsLastVerdict}
 use Rattle.piece_turn.proofs.ChainLemmas.{CallsOn, store_ends, count_more}
-use Rattle.piece_turn.proofs.TriedLemmas.{address_fault, UrlFault, IsOfUrl}
+use Rattle.piece_turn.proofs.TriedLemmas.{address_fault, UrlFault}
 use Rattle.piece_turn.proofs.TurnLemmas.{all_parts}
 
 -- a fault of another origin than the lane's

@@ -1,16 +1,15 @@
 -- What tries leave of a lane: its bytes, its promises, and its images.
-use Rattle.std.proofs.Common.{◌≡◌, ◌⊎◌, inl, inr, ⊎_elim, Bool, true, false, IsTrue, [], ◌++◌, length, refl, sym, ◌∙◌, ap, subst, arith, append_assoc}
+use Rattle.std.proofs.Common.{◌≡◌, inl, inr, ⊎_elim, Bool, true, IsTrue, ◌++◌, length, refl, sym, ◌∙◌, ap, subst, arith}
 use Rattle.std.specs.Prelude.{Option, Some, None, IsSome, is_some, if◌then◌else◌}
 use Rattle.std.proofs.lemmas.List.{append-nil}
-use Rattle.folder_base.specs.Disk.{Name, Bytes, File, Disk, Image}
+use Rattle.folder_base.specs.Disk.{Name, Bytes, File, Disk}
 use Rattle.folder_base.specs.Story.{Through}
-use Rattle.folder_base.specs.declared.store_fault.StoreFault.{StoreFault}
-use Rattle.folder_base.proofs.Moments.{begun, joined, weaker}
+use Rattle.folder_base.proofs.Moments.{weaker}
 use Rattle.keep_store.specs.Promise.{AreFirst, PieceSound, IsNameOf, promise_name}
 use Rattle.keep_store.specs.Safe.{reads}
-use Rattle.keep_store.specs.Lane.{Seen, Has, Since, Took, Finishes, SameOthers, current_name}
-use Rattle.keep_store.specs.TookLaws.{stays_none, stays_both, refusal_later, refusal_sooner, took_none}
-use Rattle.piece_turn.specs.Lane.{IsSoundLane, NoLess, IsSamePiece, KeepsLane}
+use Rattle.keep_store.specs.Lane.{Seen, Has, Since, Took, Finishes, current_name}
+use Rattle.keep_store.specs.TookLaws.{stays_none, stays_both, refusal_later, refusal_sooner}
+use Rattle.piece_turn.specs.Lane.{IsSoundLane, NoLess, IsSamePiece}
 
 -- With more of the world's bytes the lane is a sound one still,
 abbrev pub took_sound : {all : Option Bytes} {entry : Disk} {old new : Seen} {bytes : Bytes} → Took old bytes new → IsTrue new.world.tells → (r : IsSoundLane all entry old) → AreFirst all (r.bytes ++ bytes) → IsSoundLane all entry new

@@ -1,5 +1,5 @@
 -- One try, from what the calls of the lane and the dialer did to what the try is.
-use Rattle.std.proofs.Common.{◌≡◌, ◌≢◌, ◌⊎◌, inl, inr, ⊎_elim, ℕ, ◌+◌, Bool, true, false, not, List, [], ◌∷◌, ◌++◌, map, length, take, refl, sym, ◌∙◌, ap, subst, arith}
+use Rattle.std.proofs.Common.{◌≡◌, ◌≢◌, ◌⊎◌, inl, inr, ⊎_elim, ℕ, ◌+◌, Bool, true, false, not, List, [], ◌∷◌, ◌++◌, length, take, refl, sym, ◌∙◌, ap, subst}
 use Rattle.std.specs.Prelude.{Option, Some, None, IsTrue, IsFalse, Result, Ok, Err, OnOk, All, option_map, unwrap_or, nat_le, bytes_eq, codes, if◌then◌else◌}
 use Rattle.std.specs.Option.{option_or}
 use Rattle.std.proofs.lemmas.List.{append-nil}
@@ -15,19 +15,18 @@ use Rattle.http_reply.specs.declared.piece_fault.PieceFault.TheVariants.{Dial, S
 use Rattle.http_reply.proofs.VerdictLemmas.{verdict_unique}
 use Rattle.link_http.specs.declared.fetched.Fetched.{Fetched}
 use Rattle.link_http.specs.declared.piece.Piece.{Piece}
-use Rattle.link_http.specs.declared.header.Header.{Header}
 use Rattle.url.specs.Parts.{Parts, nonempty_host}
 use Rattle.url.specs.Parser.{Parsed, parse_url}
 use Rattle.url.specs.Host.{host_text}
 use Rattle.link_http.specs.Request.{Address, Place, address, address_at, address_of, to_target, request}
 use Rattle.link_http.specs.Taking.{Keeps, names_call, is_judged, as_end}
-use Rattle.link_http.specs.Try.{Tries, Fetches, DialsOnce, Answers, OfAddress, IsThere, IsPaired, Asks as AsksFor}
+use Rattle.link_http.specs.Try.{Tries, Fetches, DialsOnce, OfAddress, IsThere, IsPaired, Asks as AsksFor}
 use Rattle.link_http.specs.Wire.{Wire, Talk, Counts, AsksNothing}
 use Rattle.keep_store.specs.Promise.{AreFirst}
 use Rattle.keep_store.specs.Lane.{Seen, Took, MayAnswer}
 use Rattle.keep_store.specs.TookLaws.{took_both, refuses_only_memory}
-use Rattle.piece_turn.specs.Try.{Try, Asks, AsksAt, Knows, AreTruthful}
-use Rattle.piece_turn.specs.Step.{At, TellsTry, GaveTruth, Tried, EndsTry}
+use Rattle.piece_turn.specs.Try.{Try, AsksAt, AreTruthful}
+use Rattle.piece_turn.specs.Step.{TellsTry, GaveTruth, Tried, EndsTry}
 use Rattle.piece_turn.proofs.CutLemmas.{cut_place}
 use Rattle.piece_turn.proofs.TruthLemmas.{gave_none, gave_truth}
 
@@ -86,6 +85,7 @@ module _ {T : Type 0} (seen : T → Seen) (piece : Piece) (d e : Wire) (from : �
   pub record Told (tr : Try) : Type 0 where
     pub tell : TellsTry piece tr d e known'
     pub truth : (all : Option Bytes) (had : Bytes) → AreTruthful all (tr ∷ []) → length had ≡ from → AreFirst all had → GaveTruth all had gave (seen t) (seen u)
+    pub judged : IsTrue (is_judged gave) → (talk : Talk) (verdict : Verdict) → tr.talks ≡ talk ∷ [] → IsVerdict from known talk.reply verdict → Took (seen t) verdict.bytes (seen u)
     pub cut : (got : ℕ) (told : Option ℕ) → gave ≡ Err (CutShort got told) → (bytes : Bytes) × Took (seen t) bytes (seen u) × (got ≡ from + length bytes)
 
   abbrev Telling : Type 0
@@ -141,6 +141,7 @@ module _ {T : Type 0} (seen : T → Seen) (piece : Piece) (d e : Wire) (from : �
         knows = inl same;
       };
       truth = λ all had truthful len first. gave_none seen may all had first known t known' u gave (⊎_elim no_ok no_ok why) none;
+      judged = λ j talk verdict one is. absurd (let x : ◌≡◌ {A = List Talk} [] (talk ∷ []) = one in cc);
       cut = λ got told e. absurd (⊎_elim
           (λ is. not_cut fault got told is (λ cut. url_not_cut got told (subst IsOfUrl cut (subst UrlFault leads (address_fault piece.url)))) e)
           (λ is. not_cut OutOfMemory got told is (λ f. absurd (cc)) e) why);
@@ -172,6 +173,7 @@ module _ {T : Type 0} (seen : T → Seen) (piece : Piece) (d e : Wire) (from : �
           };
           truth = λ all had truthful len first. gave_truth seen may all had first known t known' u [] gave (λ reply others e. absurd (cc))
               (subst (λ (n : ℕ). Tries took may n known [] gave t known' u) (sym len) tries);
+          judged = λ j talk verdict one is. absurd (let x : ◌≡◌ {A = List Talk} [] (talk ∷ []) = one in cc);
           cut = λ got told e. absurd (⊎_elim (λ is. not_cut Dial got told is (λ f. absurd (cc)) e)
               (λ r. ⊎_elim (λ is. not_cut Send got told is (λ f. absurd (cc)) e) (λ is. not_cut OutOfMemory got told is (λ f. absurd (cc)) e) r) (why gave tries).0);
         },
@@ -200,6 +202,11 @@ module _ {T : Type 0} (seen : T → Seen) (piece : Piece) (d e : Wire) (from : �
           (λ other others e. let same : reply ≡ other = cc in
           subst (λ (n : ℕ). IsTruthful all n other) (sym len) (subst (IsTruthful all from) same (All-head (λ (talk : Talk). IsTruthful all from talk.reply) (the_talk to reply) [] (All-head (λ (tr : Try). All (λ (talk : Talk). IsTruthful all tr.from talk.reply) tr.talks) (the_try (to.place ∷ []) (the_talk to reply ∷ [])) [] truthful))))
           (subst (λ (n : ℕ). Tries took may n known (reply ∷ []) gave t known' u) (sym len) tries);
+      judged = λ j talk verdict one is.
+          let a = answers reply [] tries j in
+          let same : the_talk to reply ≡ talk = cc in
+          let mine : IsVerdict from known reply verdict = subst (λ (r : List ℕ). IsVerdict from known r verdict) (sym (ap (λ (k : Talk). k.reply) same)) is in
+          subst (λ (v : Verdict). Took (seen t) v.bytes (seen u)) (verdict_unique from known reply a.0 verdict a.1 mine) a.3;
       cut = λ got told e.
           let a = answers reply [] tries (subst (λ (r : Result Fetched PieceFault). IsTrue (is_judged r)) (sym e) refl) in
           (a.0.bytes, a.3, cut_place from known reply a.0 a.1 got told (a.2 ∙ ap as_end e));
@@ -235,6 +242,7 @@ module _ {T : Type 0} (seen : T → Seen) (piece : Piece) (d e : Wire) (from : �
         took = kept_took seen may gave t u keeps;
         ended = ended;
         truth = λ tells. (told tells).truth;
+        judged = λ tells. (told tells).judged;
         cut = λ tells. (told tells).cut;
         whole = λ tells to bytes there ready steady folder_tells enough.
             complete tells to bytes there (refuses_only_memory seen t ready steady folder_tells) enough;

@@ -1,6 +1,6 @@
 -- What a truthful reply gives a lane is the world's.
-use Rattle.std.proofs.Common.{◌≡◌, ◌⊎◌, inl, inr, ℕ, ◌+◌, Bool, true, false, List, [], ◌∷◌, ◌++◌, length, take, drop, refl, sym, ◌∙◌, ap, subst, arith, append_assoc, length-append}
-use Rattle.std.specs.Prelude.{Option, Some, None, IsTrue, IsFalse, Result, Ok, Err, OnOk, IfOk, IsErr, bytes_eq}
+use Rattle.std.proofs.Common.{◌≡◌, ◌⊎◌, inl, inr, ℕ, Bool, true, false, List, [], ◌∷◌, ◌++◌, length, take, drop, refl, sym, ◌∙◌, ap, subst, append_assoc}
+use Rattle.std.specs.Prelude.{Option, Some, None, Result, Ok, Err, OnOk, IfOk, IsErr, bytes_eq}
 use Rattle.std.proofs.lemmas.List.{append-nil, drop_at, take_at, take-append-drop}
 use Rattle.folder_base.specs.Disk.{Bytes}
 use Rattle.folder_base.specs.declared.store_fault.StoreFault.{StoreFault}
@@ -13,7 +13,7 @@ use Rattle.http_reply.specs.declared.piece_fault.PieceFault.{PieceFault}
 use Rattle.http_reply.proofs.TruthLaw.{truthful}
 use Rattle.http_reply.proofs.VerdictLemmas.{has_verdict}
 use Rattle.link_http.specs.declared.fetched.Fetched.{Fetched}
-use Rattle.link_http.specs.Try.{Tries, Answers, Breaks}
+use Rattle.link_http.specs.Try.{Tries, Breaks}
 use Rattle.keep_store.specs.Promise.{AreFirst}
 use Rattle.keep_store.specs.Lane.{Seen, Took}
 use Rattle.keep_store.specs.TookLaws.{took_both}

@@ -4,7 +4,7 @@ use Rattle.std.specs.Prelude.{Option, Some, None, IsTrue, Result, Ok, Err, OnOk,
 use Rattle.std.proofs.lemmas.List.{append-nil}
 use Rattle.std.proofs.lemmas.List.Elements.{All-nil, All-cons, All-head, All-tail, All-append}
 use Rattle.text_base.specs.declared.faults.FolderCall.{FolderCall}
-use Rattle.folder_base.specs.Disk.{Name, Bytes, Disk, Image}
+use Rattle.folder_base.specs.Disk.{Name, Bytes, Disk}
 use Rattle.folder_base.specs.Story.{Through}
 use Rattle.folder_base.specs.declared.store_fault.StoreFault.{StoreFault}
 use Rattle.folder_base.specs.declared.store_fault.StoreFault.TheVariants as store
@@ -17,19 +17,17 @@ use Rattle.link_http.specs.Request.{Address, address}
 use Rattle.link_http.specs.Taking.{of_store}
 use Rattle.link_http.specs.Try.{IsThere, OfAddress}
 use Rattle.link_http.specs.Wire.{Wire}
-use Rattle.keep_store.specs.Calls.{Checkpoints, EndsPiece}
+use Rattle.keep_store.specs.Calls.{Checkpoints}
 use Rattle.keep_store.specs.Promise.{AreFirst, PieceSound}
 use Rattle.keep_store.specs.Safe.{reads}
-use Rattle.keep_store.specs.Lane.{Seen, Has, Since, Took, IsRefusal}
-use Rattle.keep_store.specs.TookLaws.{took_both}
-use Rattle.piece_turn.specs.declared.piece_end.PieceEnd.{PieceEnd}
-use Rattle.piece_turn.specs.declared.piece_end.PieceEnd.TheVariants.{Done, Failed, NotBegun}
+use Rattle.keep_store.specs.Lane.{Seen, Has, Since, IsRefusal}
+use Rattle.piece_turn.specs.declared.piece_end.PieceEnd.TheVariants.{Done, Failed}
 use Rattle.piece_turn.specs.Lane.{IsAsOpened, IsSoundLane, NoLess, IsSamePiece, KeepsLane, StaysSound}
 use Rattle.piece_turn.specs.Try.{Try, answer, answer_of, calls_for_another, is_retried, unless_folder, is_url_fault, Asks, AreTruthful}
-use Rattle.piece_turn.specs.Step.{At, EndsTry, Tried, GaveTruth}
-use Rattle.piece_turn.specs.Turn.{end_of, is_done, Ends, EndsBy, KnowInTurn, TakesTurn}
-use Rattle.piece_turn.proofs.LaneLemmas.{took_sound, took_through, finished_through, has_size, complete_stands, same_none, same_both, took_no_less, finished_no_less, since_took}
-use Rattle.piece_turn.proofs.ChainLemmas.{AllTried, CallsOn, tried_more, tried_same, store_ends, Passed, passed_one, passed_all, ended_same, dialer_all, tell_all, addressed, starts_all, same_all, IsTruthfulTry, truth_all}
+use Rattle.piece_turn.specs.Step.{At, EndsTry, Tried}
+use Rattle.piece_turn.specs.Turn.{end_of, is_done, Ends, KnowInTurn, TakesTurn}
+use Rattle.piece_turn.proofs.LaneLemmas.{took_sound, took_through, finished_through, has_size, complete_stands, same_none, took_no_less, finished_no_less, since_took}
+use Rattle.piece_turn.proofs.ChainLemmas.{AllTried, CallsOn, tried_more, store_ends, Passed, passed_one, passed_all, ended_same, dialer_all, tell_all, addressed, starts_all, each_behind, same_all, IsTruthfulTry, truth_all}
 
 -- ---- how a try ended
 
@@ -292,6 +290,7 @@ module _ (piece : Piece) (earlier : List Try) (last : Try) (old mid new : At) (b
     lane = same;
     keeps = keeps;
     sound = sound;
+    behind = λ wt t had has. each_behind piece earlier last old mid before calls opened (ends.counts.tells wt) (mid_tells t) had has ends.from;
     cut = λ wt t had has m got told is. cut wt t had has (length earlier + 1) m got told is;
     refused = λ m call is. refused (length earlier + 1) m call is;
     whole = λ wt t steady to bytes there. whole (length earlier + 1) refl wt t steady to bytes
@@ -348,6 +347,7 @@ complete_turn piece retries lane wire opened complete = record {
     kept = λ entry bytes since. begun lane.world.story (NoLess (reads entry) lane.stem) (λ image may. (since.kept image may).no_less);
   };
   sound = λ wt t all truthful entry r. begun lane.world.story (PieceSound all lane.stem) (λ image may. (r.since.kept image may).sound all r.first r.whole r.entered);
+  behind = λ wt t had has. tt;
   cut = λ wt t had has n got told is. absurd (let x : Done 0 ≡ Failed n (CutShort got told) = is in cc);
   refused = λ n call is. absurd (let x : Done 0 ≡ Failed n (Folder call) = is in cc);
   whole = λ wt t steady to bytes there. inl refl;

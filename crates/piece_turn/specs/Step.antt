@@ -2,6 +2,7 @@
 use Rattle.std.specs.Prelude.{◌≡◌, ◌≢◌, ℕ, ◌+◌, IsTrue, [], ◌∷◌, ◌++◌, length, Option, Some, None, Result, Ok, Err, OnOk, IfErr, MatchBool}
 use Rattle.folder_base.specs.Disk.{Bytes}
 use Rattle.folder_base.specs.declared.store_fault.StoreFault.{StoreFault}
+use Rattle.http_reply.specs.Verdict.{Verdict, IsVerdict}
 use Rattle.http_reply.specs.declared.piece_fault.PieceFault.{PieceFault}
 use Rattle.http_reply.specs.declared.piece_fault.PieceFault.TheVariants.{CutShort, OutOfMemory}
 use Rattle.keep_store.specs.Calls.{Checkpoints, EndsPiece}
@@ -10,9 +11,9 @@ use Rattle.keep_store.specs.Promise.{AreFirst}
 use Rattle.link_http.specs.declared.fetched.Fetched.{Fetched}
 use Rattle.link_http.specs.declared.piece.Piece.{Piece}
 use Rattle.link_http.specs.Request.{Address, address}
-use Rattle.link_http.specs.Taking.{names_call}
+use Rattle.link_http.specs.Taking.{names_call, is_judged}
 use Rattle.link_http.specs.Try.{OfAddress, IsThere, IsPaired}
-use Rattle.link_http.specs.Wire.{Wire, Counts}
+use Rattle.link_http.specs.Wire.{Wire, Talk, Counts}
 use Rattle.piece_turn.specs.Try.{Try, is_url_fault, Asks, Knows, AreTruthful}
 
 -- what a piece's tries work on
@@ -54,6 +55,8 @@ pub record Tried (piece : Piece) (t : Try) (old new : At) : Type 0 where
   pub ended : EndsTry t.gave t.kept mid new.lane
   pub truth : IsTrue new.wire.tells → (all : Option Bytes) (had : Bytes) → AreTruthful all (t ∷ []) → length had ≡ t.from
       → AreFirst all had → GaveTruth all had t.gave old.lane mid
+  pub judged : IsTrue new.wire.tells → IsTrue (is_judged t.gave) → (talk : Talk) (verdict : Verdict) → t.talks ≡ talk ∷ []
+      → IsVerdict t.from t.known talk.reply verdict → Took old.lane verdict.bytes mid
   pub cut : IsTrue new.wire.tells → (got : ℕ) (told : Option ℕ) → t.gave ≡ Err (CutShort got told)
       → (bytes : Bytes) × Took old.lane bytes mid × (got ≡ t.from + length bytes)
   pub whole : IsTrue new.wire.tells → (to : Address) (bytes : Bytes) → IsThere old.wire piece.url to t.from t.known bytes

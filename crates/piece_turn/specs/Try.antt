@@ -1,5 +1,5 @@
 -- One try to fetch a lane's piece: what it asked, what it came to, and whether another may mend it.
-use Rattle.std.specs.Prelude.{◌≡◌, ◌⊎◌, ℕ, Bool, true, false, IsTrue, List, [], ◌∷◌, Option, Some, None, Result, Ok, Err, is_err, All}
+use Rattle.std.specs.Prelude.{◌≡◌, ◌⊎◌, ℕ, Bool, true, false, IsTrue, List, [], ◌∷◌, Option, Result, Ok, Err, All}
 use Rattle.std.specs.Option.{option_or}
 use Rattle.folder_base.specs.Disk.{Bytes}
 use Rattle.folder_base.specs.declared.store_fault.StoreFault.{StoreFault}

@@ -4,14 +4,15 @@ use Rattle.std.specs.List.{flat_map}
 use Rattle.text_base.specs.declared.faults.FolderCall.{FolderCall}
 use Rattle.folder_base.specs.Disk.{Bytes}
 use Rattle.folder_base.specs.declared.store_fault.StoreFault.TheVariants as store
+use Rattle.http_reply.specs.Verdict.{Verdict, IsVerdict}
 use Rattle.http_reply.specs.declared.piece_fault.PieceFault.{PieceFault}
 use Rattle.http_reply.specs.declared.piece_fault.PieceFault.TheVariants.{CutShort, Folder, OutOfMemory}
 use Rattle.keep_store.specs.Lane.{Seen, Has, IsRefusal}
 use Rattle.link_http.specs.declared.piece.Piece.{Piece}
 use Rattle.link_http.specs.Request.{Address, address}
-use Rattle.link_http.specs.Taking.{names_call}
+use Rattle.link_http.specs.Taking.{names_call, is_judged}
 use Rattle.link_http.specs.Try.{OfAddress, IsThere, IsPaired}
-use Rattle.link_http.specs.Wire.{Wire}
+use Rattle.link_http.specs.Wire.{Wire, Talk}
 use Rattle.piece_turn.specs.declared.piece_end.PieceEnd.{PieceEnd}
 use Rattle.piece_turn.specs.declared.piece_end.PieceEnd.TheVariants.{Done, Failed, NotBegun}
 use Rattle.piece_turn.specs.Lane.{IsSamePiece, KeepsLane, StaysSound}
@@ -54,6 +55,21 @@ abbrev pub StartFrom : ℕ → List Try → Type 0
 StartFrom promised [] = Unit {0}
 StartFrom promised (t ∷ tries) = (promised ≤ t.from) × StartFrom t.from tries
 
+-- the try asks from behind all that the reply to the one before gave, where no call failed there: no byte that came is asked for again
+abbrev pub AsksBehind : Try → Try → Type 0
+AsksBehind before t = (talk : Talk) (verdict : Verdict) → before.talks ≡ talk ∷ [] → IsVerdict before.from before.known talk.reply verdict
+    → IsTrue (is_judged before.gave) → t.from ≡ before.from + length verdict.bytes
+
+-- the first of these tries does so
+abbrev pub NextBehind : Try → List Try → Type 0
+NextBehind before [] = Unit {0}
+NextBehind before (t ∷ tries) = AsksBehind before t
+
+-- each try but the first does so
+abbrev pub EachBehind : List Try → Type 0
+EachBehind [] = Unit {0}
+EachBehind (t ∷ tries) = NextBehind t tries × EachBehind tries
+
 -- each try knows the total that the tries before it learnt, beginning with this
 abbrev pub KnowInTurn : Option ℕ → List Try → Type 0
 KnowInTurn known [] = Unit {0}
@@ -95,6 +111,7 @@ pub record TakesTurn (piece : Piece) (retries : ℕ) (old new : Seen) (end : Pie
   pub lane : IsSamePiece old new
   pub keeps : IsTrue new.world.tells → KeepsLane old new
   pub sound : IsTrue e.tells → IsTrue new.world.tells → (all : Option Bytes) → AreTruthful all tries → StaysSound all old new
+  pub behind : IsTrue e.tells → IsTrue new.world.tells → (had : Bytes) → Has old had → EachBehind tries
   pub cut : IsTrue e.tells → IsTrue new.world.tells → (had : Bytes) → Has old had → (n got : ℕ) (told : Option ℕ)
       → end ≡ Failed n (CutShort got told) → new.promised ≡ got
   pub refused : (n : ℕ) (call : FolderCall) → end ≡ Failed n (Folder call) → IsRefusal old.world new.world (store.Folder call)

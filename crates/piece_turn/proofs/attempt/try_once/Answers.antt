@@ -1,4 +1,4 @@
-use Rattle.std.proofs.Common.{sym, ◌∙◌, ap, Result}
+use Rattle.std.proofs.Common.{sym, ◌∙◌, ap}
 use Rattle.keep_store.specs.Seen.{lane_seen}
 use Rattle.piece_turn.specs.Try.{answer_of}
 use Rattle.piece_turn.proofs.TriedLemmas.{tried}
