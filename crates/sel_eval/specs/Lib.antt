@@ -1,0 +1,11 @@
+pub mod Placed
+pub mod Keep
+pub mod Ext
+pub mod Holds
+pub mod Picks
+pub mod Den
+pub mod Answer
+pub mod Matchers
+pub mod Nth
+pub mod Parts
+pub mod Merging
