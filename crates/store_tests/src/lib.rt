@@ -1,16 +1,11 @@
+//! Tests of folders in memory, of what a stop leaves of them, of small steps over them, of lanes, and of plans.
 #![tactic(auto)]
 
 #[cfg(test)]
-mod folder_base_many_parts_tests;
+mod folders;
 #[cfg(test)]
-mod folder_base_stop_tests;
+mod lanes;
 #[cfg(test)]
-mod folder_base_tests;
+mod plans;
 #[cfg(test)]
-mod folder_steps_tests;
-#[cfg(test)]
-mod keep_store_stop_tests;
-#[cfg(test)]
-mod keep_store_tests;
-#[cfg(test)]
-mod plan_record_tests;
+mod steps;

@@ -1,6 +1,0 @@
-use Rattle.folder_base.specs.Memory.{world_of}
-use Rattle.folder_base.specs.Story.{IsWhole}
-use Rattle.store_tests.proofs.folder_base_stop_tests.listed.Given as goal
-
-abbrev pub invariant-loop-name : goal.invariant-loop-name
-invariant-loop-name l = IsWhole (world_of l.folder)
