@@ -75,7 +75,7 @@ operation_again s r x h =
 abbrev text_part : Result (List ℕ × List ℕ) (TplKind × ℕ) → Result (DatePart × List ℕ) (TplKind × ℕ)
 text_part z = z >>= λ run. Ok (dates.Text run.0, run.1)
 
-date_part_again : AgainSo date_part_at IsDatePart
+pub date_part_again : AgainSo date_part_at IsDatePart
 unfolding date_part_at
 date_part_again s r (dates.Directive d) h =
     ap (λ (l : List ℕ). date_part_at (l ++ r)) h.2 ∙ ap (λ (o : Option Directive). directive_by (length (37 ∷ h.0 ∷ r)) (h.0 ∷ r) o) h.1

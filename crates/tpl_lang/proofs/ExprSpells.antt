@@ -43,7 +43,7 @@ point_short : (t : List ℕ) → point_length t ≤ length t
 point_short [] = omega arith
 point_short (b ∷ t) = point_by (prefix_len is_digit t) (has_decimals t) (b ∷ t) (λ h. omega (arith, prefix_len-le-length is_digit t))
 
-number_short : (t : List ℕ) → number_length t ≤ length t
+pub number_short : (t : List ℕ) → number_length t ≤ length t
 number_short t =
     let n = prefix_len is_digit t in
     number_by n (point_length (drop n t)) _ _ _ t (prefix_len-le-length is_digit t) (omega (arith, point_short (drop n t), length-drop n t))
@@ -85,7 +85,7 @@ operation_from (Some op) (b ∷ u) p h e =
     let taken : TakesSo IsOperation (b ∷ u) made = (b ∷ one.0, (b, h, (one.0, one.1, refl)), ap (λ (l : List ℕ). b ∷ l) one.2) in
     subst (λ (q : Operation × List ℕ). TakesSo IsOperation (b ∷ u) q) (ok_is {K = TplKind} made p a.2) taken
 
-operation_spells : SpellsAt is_operator operation_at IsOperation
+pub operation_spells : SpellsAt is_operator operation_at IsOperation
 unfolding operation_at
 operation_spells t p here e = operation_from (operator_of t) t p refl e
 
@@ -103,9 +103,9 @@ directive_from (Some d) left t (b ∷ u) p parts h e =
     let taken : TakesSo IsDatePart t made = (37 ∷ b ∷ [], (b, h, refl), parts) in
     subst (λ (q : DatePart × List ℕ). TakesSo IsDatePart t q) (ok_is {K = TplKind} made p e) taken
 
-date_part_spells : SpellsAt in_date date_part_at IsDatePart
+pub date_part_spells : SpellsSo date_part_at IsDatePart
 unfolding date_part_at
-date_part_spells t p here e = elim (chosen (is_at 37 t) _ _ _ e) [
+date_part_spells t p e = elim (chosen (is_at 37 t) _ _ _ e) [
   | inl h ↦ directive_from (first_directive (drop 1 t)) (length t) t (drop 1 t) p (marked 37 t h.0) refl h.1
   | inr h ↦
       let a = bind_ok (run_at kinds.Syntax (in_class DateText) t) (λ run. Ok (dates.Text run.0, run.1)) p h.1 in
@@ -124,7 +124,7 @@ unfolding date_format_at
 date_format_spells t p e = elim (chosen (is_at 62 t) _ _ _ e) [
   | inl h ↦
       let a = bind_ok (all_at in_date date_part_at (drop 1 t)) (λ parts. Ok (Some parts.0, parts.1)) p h.1 in
-      let one = all_spells in_date date_part_at IsDatePart refl date_part_some date_part_spells (drop 1 t) a.0 a.1 in
+      let one = all_spells in_date date_part_at IsDatePart refl date_part_some (λ t p here e. date_part_spells t p e) (drop 1 t) a.0 a.1 in
       let made : Option (List DatePart) × List ℕ = (Some a.0.0, a.0.1) in
       let taken : TakesSo IsDateFormat t made = (62 ∷ one.0, (one.0, one.1, refl), marked 62 t h.0 ∙ ap (λ (l : List ℕ). 62 ∷ l) one.2) in
       subst (λ (q : Option (List DatePart) × List ℕ). TakesSo IsDateFormat t q) (ok_is {K = TplKind} made p a.2) taken

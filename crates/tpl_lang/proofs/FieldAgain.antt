@@ -55,7 +55,7 @@ aligned_piece : (side : ℕ) (v : List ℕ) → replacement_part_at (123 ∷ 58 
 unfolding replacement_part_at value_at
 aligned_piece side v = refl
 
-replacement_part_again : AgainSo replacement_part_at IsReplacementPart
+pub replacement_part_again : AgainSo replacement_part_at IsReplacementPart
 unfolding replacement_part_at value_at
 replacement_part_again s r (pieces.Text run) h = elim h [
   | inl a ↦ ap (λ (l : List ℕ). replacement_part_at (l ++ r)) a.0 ∙ ap (λ (z : List ℕ). taken (pieces.Text z) r) (sym a.1)
@@ -158,7 +158,7 @@ precision_again s r (Some count) h =
 
 -- ---- types
 
-type_again : AgainSo type_at IsType
+pub type_again : AgainSo type_at IsType
 type_again s r x h = elim h [
   | inl a ↦
       let e : behind_length (a.0 ∷ a.1 ∷ r) ≡ a.1 ∷ r = cond_yes (is_length a.0 && is_some (kind_of a.1)) (a.1 ∷ r) (a.0 ∷ a.1 ∷ r) (and_from (is_length a.0) (is_some (kind_of a.1)) a.2 (ap (λ (o : Option Kind). is_some o) a.3)) in

@@ -84,9 +84,9 @@ value_spells t p here e =
       ]
     ]
 
-replacement_part_spells : SpellsAt in_replacement replacement_part_at IsReplacementPart
+pub replacement_part_spells : SpellsSo replacement_part_at IsReplacementPart
 unfolding replacement_part_at
-replacement_part_spells t p here e = elim (chosen (is_at 123 t) _ _ _ e) [
+replacement_part_spells t p e = elim (chosen (is_at 123 t) _ _ _ e) [
   | inl h ↦ elim (chosen (is_at 123 (drop 1 t)) _ _ _ h.1) [
     | inl k ↦
         let made : ReplacementPart × List ℕ = (pieces.Text (codes "{"), drop 1 (drop 1 t)) in
@@ -126,7 +126,7 @@ unfolding replacement_at
 replacement_spells t p e = elim (chosen (is_at 38 t) _ _ _ e) [
   | inl h ↦
       let a = bind_ok (all_at in_replacement replacement_part_at (drop 1 t)) (λ parts. Ok (Some parts.0, parts.1)) p h.1 in
-      let one = all_spells in_replacement replacement_part_at IsReplacementPart refl replacement_part_some replacement_part_spells (drop 1 t) a.0 a.1 in
+      let one = all_spells in_replacement replacement_part_at IsReplacementPart refl replacement_part_some (λ t p here e. replacement_part_spells t p e) (drop 1 t) a.0 a.1 in
       let made : Option (List ReplacementPart) × List ℕ = (Some a.0.0, a.0.1) in
       let taken : TakesSo IsReplacement t made = (38 ∷ one.0, (one.0, one.1, refl), marked 38 t h.0 ∙ ap (λ (l : List ℕ). 38 ∷ l) one.2) in
       subst (λ (q : Option (List ReplacementPart) × List ℕ). TakesSo IsReplacement t q) (ok_is {K = TplKind} made p a.2) taken
@@ -228,7 +228,7 @@ type_here true b (d ∷ u) p h k r = (b ∷ d ∷ [], inl (b, d, (and_parts _ _ 
 type_here false b u p h k r =
     (b ∷ [], inr (b, ap (λ (l : List ℕ). is_length b && is_some (first_kind l)) r ∙ h, k, refl), ap (λ (l : List ℕ). b ∷ l) (sym r))
 
-type_spells : SpellsSo type_at IsType
+pub type_spells : SpellsSo type_at IsType
 type_spells [] p e = absurd cc
 type_spells (b ∷ u) p e =
     let is = type_by_is (first_kind (behind_length (b ∷ u))) (behind_length (b ∷ u)) p e in
@@ -266,9 +266,9 @@ close_spells exprs replacement default bare t p e =
     let taken : TakesSo P t made = (41 ∷ one.0, (41 ∷ one.0, [], b.0.0, (one.0, one.1, refl), (refl, refl), sym (append-nil (41 ∷ one.0))), mark ∙ ap (λ (l : List ℕ). 41 ∷ l) one.2) in
     subst (λ (q : FieldView × List ℕ). TakesSo P t q) (ok_is {K = TplKind} made p b.2) taken
 
-field_by : (bare : Bool) → SpellsSo (λ t. exprs_at t >>= λ exprs. replacement_at exprs.1 >>= λ replacement. mark_at Syntax 41 (default_of replacement.1).1 >>= λ rest. conv_at rest >>= λ conv.
+pub field_by_spells : (bare : Bool) → SpellsSo (λ t. exprs_at t >>= λ exprs. replacement_at exprs.1 >>= λ replacement. mark_at Syntax 41 (default_of replacement.1).1 >>= λ rest. conv_at rest >>= λ conv.
     Ok (field_of exprs.0 replacement.0 (default_of replacement.1).0 conv.0 bare, conv.1)) (IsFieldBy bare)
-field_by bare =
+field_by_spells bare =
     follows_spells exprs_at (λ exprs r. replacement_at r >>= λ replacement. mark_at Syntax 41 (default_of replacement.1).1 >>= λ rest. conv_at rest >>= λ conv. Ok (field_of exprs replacement.0 (default_of replacement.1).0 conv.0 bare, conv.1)) _ _ exprs_spells
     (λ exprs. follows_spells replacement_at (λ replacement r. mark_at Syntax 41 (default_of r).1 >>= λ rest. conv_at rest >>= λ conv. Ok (field_of exprs replacement (default_of r).0 conv.0 bare, conv.1)) _ _ replacement_spells
     (λ replacement. follows_spells (λ r. Ok (default_of r)) (λ default r. mark_at Syntax 41 r >>= λ rest. conv_at rest >>= λ conv. Ok (field_of exprs replacement default conv.0 bare, conv.1)) _ _ default_spells
@@ -277,5 +277,5 @@ field_by bare =
 pub field_spells : SpellsSo field_at IsField
 unfolding field_at
 field_spells t p e =
-    let one = field_by (is_bare t) t p e in
+    let one = field_by_spells (is_bare t) t p e in
     (one.0, subst (λ (b : Bool). IsFieldBy b one.0 p.1 p.0) (ap is_bare one.2) one.1, one.2)

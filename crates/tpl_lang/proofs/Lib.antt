@@ -11,3 +11,8 @@ pub mod PlainLemmas
 pub mod ReadingAgain
 pub mod ReadingSpells
 pub mod SpellsLemmas
+pub mod OpenLemmas
+pub mod PathOpen
+pub mod ExprOpen
+pub mod FieldOpen
+pub mod ReadingOpen

@@ -41,7 +41,7 @@ plain_some : (t : List ℕ) → is_left t ≡ true → is_at 37 t ≡ false → 
 plain_some [] h k = absurd cc
 plain_some (b ∷ t) h k = rw k (omega arith)
 
-part_spells : SpellsAt is_left part_at IsPart
+pub part_spells : SpellsAt is_left part_at IsPart
 unfolding part_at
 part_spells t p here e = elim (chosen (is_at 37 t) _ _ _ e) [
   | inl h ↦ percent_spells t (drop 1 t) p (marked 37 t h.0) h.1

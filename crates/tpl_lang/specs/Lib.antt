@@ -8,3 +8,4 @@ pub mod Keys
 pub mod Paths
 pub mod Reading
 pub mod Spelled
+pub mod Places
