@@ -6,3 +6,4 @@ pub mod LookupLemmas
 pub mod PartLemmas
 pub mod PutLemmas
 pub mod SumLemmas
+pub mod PlaceLemmas

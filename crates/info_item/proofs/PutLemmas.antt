@@ -8,11 +8,11 @@ use Rattle.info_tree.specs.Pairs.{value_at, put, HaveDistinctKeys}
 use Rattle.info_item.specs.View.{over}
 
 -- whether a key stands
-abbrev Has : List (List ℕ × Tree) → List ℕ → Type 0
+abbrev pub Has : List (List ℕ × Tree) → List ℕ → Type 0
 Has ps k = is_some (value_at ps k) ≡ true
 
 -- a key that stands takes the later of two values
-put-again : (ps : List (List ℕ × Tree)) (k : List ℕ) (t v : Tree) → put (put ps k v) k t ≡ put ps k t
+pub put-again : (ps : List (List ℕ × Tree)) (k : List ℕ) (t v : Tree) → put (put ps k v) k t ≡ put ps k t
 put-again [] k t v = rw ((bytes_eq-Decides k k).1 refl) refl
 put-again (p ∷ ps) k t v = step (put-again ps k t v) (bytes_eq k p.0) refl
   where
@@ -21,7 +21,7 @@ put-again (p ∷ ps) k t v = step (put-again ps k t v) (bytes_eq k p.0) refl
     step less true e = rw e refl
     step less false e = rw e (ap (λ l. p ∷ l) less)
 
-put-has : (ps : List (List ℕ × Tree)) (k : List ℕ) (v : Tree) → Has (put ps k v) k
+pub put-has : (ps : List (List ℕ × Tree)) (k : List ℕ) (v : Tree) → Has (put ps k v) k
 put-has [] k v = rw ((bytes_eq-Decides k k).1 refl) refl
 put-has (p ∷ ps) k v = step (put-has ps k v) (bytes_eq k p.0) refl
   where
@@ -29,7 +29,7 @@ put-has (p ∷ ps) k v = step (put-has ps k v) (bytes_eq k p.0) refl
     step less true e = rw e refl
     step less false e = rw e less
 
-put-keeps : (ps : List (List ℕ × Tree)) (k j : List ℕ) (v : Tree) → Has ps k → Has (put ps j v) k
+pub put-keeps : (ps : List (List ℕ × Tree)) (k j : List ℕ) (v : Tree) → Has ps k → Has (put ps j v) k
 put-keeps [] k j v h = absurd (cc h)
 put-keeps (p ∷ ps) k j v h = step (put-keeps ps k j v) (bytes_eq j p.0) (bytes_eq k p.0) refl h
   where
@@ -41,7 +41,7 @@ put-keeps (p ∷ ps) k j v h = step (put-keeps ps k j v) (bytes_eq j p.0) (bytes
     step less false false e h = rw e (less h)
 
 -- puts at two keys, of which one stands, can be turned round
-put-turn : (ps : List (List ℕ × Tree)) (k j : List ℕ) (t v : Tree) → bytes_eq k j ≡ false → Has ps k →
+pub put-turn : (ps : List (List ℕ × Tree)) (k j : List ℕ) (t v : Tree) → bytes_eq k j ≡ false → Has ps k →
     put (put ps j v) k t ≡ put (put ps k t) j v
 put-turn [] k j t v other h = absurd (cc h)
 put-turn (p ∷ ps) k j t v other h = step (put-turn ps k j t v other) (bytes_eq k p.0) refl (bytes_eq j p.0) refl h

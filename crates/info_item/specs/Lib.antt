@@ -1,5 +1,6 @@
 pub mod Fields
 pub mod Formats
+pub mod Found
 pub mod Item
 pub mod Items
 pub mod Sums

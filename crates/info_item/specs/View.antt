@@ -1,5 +1,5 @@
 -- The view of an item and of the formats that are to be had as one file: the pairs that templates are filled from.
-use Rattle.std.specs.Prelude.{ℕ, List, [], ◌∷◌, ◌++◌, codes, Bool, true, false, if◌then◌else◌, Option, Some, None, slice_get, filter_map, find, map, pos}
+use Rattle.std.specs.Prelude.{◌≡◌, ℕ, List, [], ◌∷◌, ◌++◌, codes, Bool, true, false, if◌then◌else◌, Option, Some, None, is_some, slice_get, filter_map, find, map, pos}
 use Rattle.std.specs.Option.{option_map, option_and_then}
 use Rattle.std.specs.List.{list_any}
 use Rattle.std.specs.Str.{bytes_eq}
@@ -10,7 +10,7 @@ use Rattle.text_base.specs.declared.fields.NumField.TheVariants.{Width, Height, 
 use Rattle.text_base.specs.declared.fields.TextField.{TextField}
 use Rattle.text_base.specs.declared.fields.TextField.TheVariants.{FormatId, Format as FormatField, Protocol, Resolution, DynamicRange, Vcodec, Acodec}
 use Rattle.info_tree.specs.Tree.{Tree, null, truth, number, text, list, mapping, trees_of}
-use Rattle.info_tree.specs.Pairs.{put, pair_list}
+use Rattle.info_tree.specs.Pairs.{put, value_at, pair_list}
 use Rattle.info_item.specs.Item.{Item, Format}
 use Rattle.info_item.specs.Fields.{has_video_of, has_audio_of, number_of_field, text_of_field}
 use Rattle.info_item.specs.Sums.{sum_over}
@@ -97,14 +97,25 @@ abbrev pub put_audio : Option Format → List (List ℕ × Tree) → List (List 
 put_audio None ps = ps
 put_audio (Some f) ps = put_number f AudioChannels (put_number f Asr (put_number f Abr (put_text f Acodec ps)))
 
--- What several parts share, in this order: joined texts, the keys of the first part with video and of the first with audio, sums,
--- and the parts' maps. What is not known is left out.
-abbrev pub merged : List Format → List (List ℕ × Tree)
-merged parts =
+-- What several parts share, in this order: joined texts, the keys of the first part with video and of the first with audio, and sums.
+-- What is not known is left out.
+unfoldable pub summed : List Format → List (List ℕ × Tree)
+summed parts =
     let ids = put_joined parts Protocol (put_joined parts FormatField (put_joined parts FormatId [])) in
     let streams = put_audio (find (λ f. has_audio_of f.tree) parts) (put_video (find (λ f. has_video_of f.tree) parts) ids) in
-    let sums = put_known (put_known streams (codes "tbr") (option_map number (sum_over Rate parts))) (codes "filesize_approx") (option_map number (sum_over Size parts)) in
-    put sums (codes "requested_formats") (list (trees_of (map (λ f. f.tree) parts)))
+    put_known (put_known streams (codes "tbr") (option_map number (sum_over Rate parts))) (codes "filesize_approx") (option_map number (sum_over Size parts))
+
+-- the key of the parts' maps
+abbrev pub parts_key : List ℕ
+parts_key = codes "requested_formats"
+
+-- pairs with the list of the parts' maps
+abbrev pub with_parts : List (List ℕ × Tree) → List Tree → List (List ℕ × Tree)
+with_parts ps maps = put ps parts_key (list (trees_of maps))
+
+-- what several parts share, and last the list of their maps
+abbrev pub merged : List Format → List (List ℕ × Tree)
+merged parts = with_parts (summed parts) (map (λ f. f.tree) parts)
 
 -- whether there are several parts
 abbrev pub are_several : List Format → Bool
@@ -139,3 +150,34 @@ parts_of formats places = filter_map (slice_get formats) places
 abbrev pub view_of : Item → Combo → ℕ → List (List ℕ × Tree)
 view_of item combo count =
     let parts = parts_of item.formats combo.parts.items in over (base_of (are_several parts) item.tree (only_part parts)) (own_of parts combo.ext count)
+
+-- the own pairs of a view whose list of the parts' maps is made when it is asked for
+abbrev pub own_with : Option (List Tree) → List (List ℕ × Tree) → List (List ℕ × Tree)
+own_with None own = own
+own_with (Some maps) own = with_parts own maps
+
+-- the key of that list has its place among the own pairs
+abbrev pub HasPlace : Option (List Tree) → List (List ℕ × Tree) → Type 0
+HasPlace None own = Unit {0}
+HasPlace (Some maps) own = is_some (value_at own parts_key) ≡ true
+
+-- the value of an own pair, which holds the place of that list under its key
+abbrev pub own_value : Option (List Tree) → List ℕ → Tree → Tree
+own_value None key value = value
+own_value (Some maps) key value = if bytes_eq key parts_key then list (trees_of maps) else value
+
+-- what several parts share, with a null in the place of the list
+abbrev pub placed_of : List Format → List (List ℕ × Tree)
+placed_of parts = if are_several parts then put (summed parts) parts_key null else []
+
+-- the maps of several parts
+abbrev pub maps_of : List Format → Option (List Tree)
+maps_of parts = if are_several parts then Some (map (λ f. f.tree) parts) else None
+
+-- what is left of the parts' maps once a pair was put under a key
+abbrev pub kept_maps : Option (List Tree) → List ℕ → Option (List Tree)
+kept_maps maps key = if bytes_eq key parts_key then None else maps
+
+-- the own pairs of a new view
+abbrev pub begun_of : List Format → List ℕ → ℕ → List (List ℕ × Tree)
+begun_of parts ext count = put (put (placed_of parts) (codes "ext") (text ext)) (codes "autonumber") (number (whole (pos count)))

@@ -4,6 +4,7 @@
 mod combo;
 mod format;
 mod formats;
+mod found;
 mod item;
 mod item_fault;
 mod keys;
@@ -18,6 +19,7 @@ mod whole;
 
 pub use combo::Combo;
 pub use format::Format;
+pub use found::Found;
 pub use item::Item;
 pub use item_fault::ItemFault;
 pub use lazy::View;

@@ -1,8 +1,8 @@
 //! What the parts of one file share.
-ghost use Rattle.std.specs.Prelude.{◌≡◌, List, map, find, slice_get, IfOk, OnOk};
+ghost use Rattle.std.specs.Prelude.{◌≡◌, List, map, find, slice_get, IfOk, OnOk, OnErr};
 ghost use Rattle.std.specs.Option.{option_map};
 ghost use Rattle.text_base.specs.Number.{number_of};
-ghost use Rattle.info_tree.specs.Tree.{number};
+ghost use Rattle.info_tree.specs.Tree.{null, number, list, trees_of};
 ghost use Rattle.info_tree.specs.Plain.{plain};
 ghost use Rattle.info_tree.specs.Pairs.{put, HaveDistinctKeys};
 ghost use Rattle.info_item.specs.Fields.{has_video_of, has_audio_of};
@@ -82,6 +82,7 @@ pub(crate) fn put(
 ) -> Result<(), OutOfMemory>
     ensures ok { OnOk result (pairs.new ≡ put pairs.old key.now (plain tree)) }
     ensures distinct { OnOk result (HaveDistinctKeys pairs.old) }
+    ensures err { OnErr result (pairs.new ≡ pairs.old) }
 {
     pairs.put(Text::new(alloc, key)?, tree)
 }
@@ -241,20 +242,24 @@ fn put_audio(
     put_number(alloc, pairs, part, NumField::AudioChannels)
 }
 
-/// Copies of the parts' maps.
-fn maps_of(alloc: Global, parts: &Vec<&Format<'_>>) -> Result<TreeList, OutOfMemory>
-    ensures { IfOk result (λ maps. maps ≡ map (λ f. f.tree) (map (λ f. f.now) parts.now.items)) }
+/// The key of the list of the parts' maps.
+pub(crate) const PARTS_KEY: &str = "requested_formats";
+
+/// The maps of parts.
+fn maps_of<'a>(alloc: Global, parts: &Vec<&'a Format<'_>>) -> Result<Vec<&'a Tree>, OutOfMemory>
+    ensures { IfOk result (λ maps. map (λ t. plain t.now) maps.items
+        ≡ map (λ f. f.tree) (map (λ f. f.now) parts.now.items)) }
 {
-    let mut maps = TreeList::with_capacity(alloc, parts.len())?;
+    let mut maps = Vec::with_capacity(alloc, parts.len())?;
     for part in parts {
-        maps.push(part.tree().copy(alloc)?)?;
+        maps.push(part.tree())?;
     }
     Ok(maps)
 }
 
-/// What several parts share.
-fn merged(alloc: Global, parts: &Vec<&Format<'_>>) -> Result<TreeMap, OutOfMemory>
-    ensures { IfOk result (λ pairs. pairs ≡ spec.merged (map (λ f. f.now) parts.now.items)) }
+/// What several parts share but the list of their maps.
+fn summed(alloc: Global, parts: &Vec<&Format<'_>>) -> Result<TreeMap, OutOfMemory>
+    ensures { IfOk result (λ pairs. pairs ≡ spec.summed (map (λ f. f.now) parts.now.items)) }
 {
     let mut pairs = TreeMap::new(alloc);
     put_joined(alloc, &mut pairs, parts, TextField::FormatId)?;
@@ -269,12 +274,16 @@ fn merged(alloc: Global, parts: &Vec<&Format<'_>>) -> Result<TreeMap, OutOfMemor
         "filesize_approx",
         sum_of(parts, Measure::Size),
     )?;
-    put(
-        alloc,
-        &mut pairs,
-        "requested_formats",
-        Tree::List(maps_of(alloc, parts)?),
-    )?;
+    Ok(pairs)
+}
+
+/// The same, with a null in the place of that list.
+fn placed(alloc: Global, parts: &Vec<&Format<'_>>) -> Result<TreeMap, OutOfMemory>
+    ensures { IfOk result (λ pairs. pairs
+        ≡ put (spec.summed (map (λ f. f.now) parts.now.items)) spec.parts_key null) }
+{
+    let mut pairs = summed(alloc, parts)?;
+    put(alloc, &mut pairs, PARTS_KEY, Tree::Null)?;
     Ok(pairs)
 }
 
@@ -288,13 +297,40 @@ pub(crate) fn are_several(parts: &Vec<&Format<'_>>) -> bool
     }
 }
 
-/// What the parts share: nothing, unless there are several.
+/// What the parts share: nothing, unless there are several. A null holds the place of the list of
+/// their maps.
 pub(crate) fn shared(alloc: Global, parts: &Vec<&Format<'_>>) -> Result<TreeMap, OutOfMemory>
-    ensures { IfOk result (λ pairs. pairs ≡ spec.shared_of (map (λ f. f.now) parts.now.items)) }
+    ensures { IfOk result (λ pairs. pairs ≡ spec.placed_of (map (λ f. f.now) parts.now.items)) }
 {
     if are_several(parts) {
-        merged(alloc, parts)
+        placed(alloc, parts)
     } else {
         Ok(TreeMap::new(alloc))
     }
+}
+
+/// The maps of several parts.
+pub(crate) fn shared_maps<'a>(
+    alloc: Global,
+    parts: &Vec<&'a Format<'_>>,
+) -> Result<Option<Vec<&'a Tree>>, OutOfMemory>
+    ensures { IfOk result (λ maps. option_map (λ v. map (λ t. plain t.now) v.items) maps
+        ≡ spec.maps_of (map (λ f. f.now) parts.now.items)) }
+{
+    if are_several(parts) {
+        Ok(Some(maps_of(alloc, parts)?))
+    } else {
+        Ok(None)
+    }
+}
+
+/// The list of copies of maps.
+pub(crate) fn list_of(alloc: Global, maps: &Vec<&Tree>) -> Result<Tree, OutOfMemory>
+    ensures { IfOk result (λ t. plain t ≡ list (trees_of (map (λ t. plain t.now) maps.now.items))) }
+{
+    let mut copies = TreeList::with_capacity(alloc, maps.len())?;
+    for map in maps {
+        copies.push(map.copy(alloc)?)?;
+    }
+    Ok(Tree::List(copies))
 }

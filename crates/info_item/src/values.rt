@@ -4,8 +4,10 @@ ghost use Rattle.std.specs.Option.{option_map};
 ghost use Rattle.info_tree.specs.Tree.{Tree as Plain, mapping, pairs_of};
 ghost use Rattle.info_tree.specs.Plain.{plain};
 ghost use Rattle.info_tree.specs.Pairs.{member};
+ghost use Rattle.info_item.specs.Found.{tree_of};
 ghost use Rattle.info_item.specs.View.{is_mapping};
 
+use crate::found::Found;
 use crate::lazy::View;
 use info_tree::Tree;
 use std::alloc::Global;
@@ -16,9 +18,9 @@ pub trait Values {
     /// The whole.
     ghost tree: { Self → Plain };
 
-    /// The value under a key, without a copy of anything.
-    fn get(&self, key: &str) -> Option<&Tree>
-        ensures { option_map (λ t. plain t.now) result ≡ member (tree self.now) key.now };
+    /// The value under a key. It is lent where the whole holds it, and made where it does not.
+    fn get(&self, alloc: Global, key: &str) -> Result<Option<Found<'_>>, OutOfMemory>
+        ensures { IfOk result (λ found. option_map tree_of found ≡ member (tree self.now) key.now) };
 
     /// Whether the whole is a map.
     fn is_map(&self) -> bool
@@ -32,8 +34,8 @@ pub trait Values {
 impl Values for Tree {
     ghost tree = { λ t. plain t };
 
-    fn get(&self, key: &str) -> Option<&Tree> {
-        Tree::get(self, key)
+    fn get(&self, _alloc: Global, key: &str) -> Result<Option<Found<'_>>, OutOfMemory> {
+        Ok(Found::lend(Tree::get(self, key)))
     }
 
     fn is_map(&self) -> bool {
@@ -48,8 +50,8 @@ impl Values for Tree {
 impl<'a> Values for View<'a> {
     ghost tree = { λ v. mapping (pairs_of v) };
 
-    fn get(&self, key: &str) -> Option<&Tree> {
-        View::get(self, key)
+    fn get(&self, alloc: Global, key: &str) -> Result<Option<Found<'_>>, OutOfMemory> {
+        View::get(self, alloc, key)
     }
 
     fn is_map(&self) -> bool {

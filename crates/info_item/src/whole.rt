@@ -2,6 +2,7 @@
 ghost use Rattle.std.specs.Prelude.{◌≡◌, ◌<◌, ◌^◌, length, slice_get, Some, None, IfOk, OnOk};
 ghost use Rattle.std.specs.Option.{option_map};
 ghost use Rattle.info_tree.specs.Plain.{plain};
+ghost use Rattle.info_tree.specs.Pairs.{HaveDistinctKeys};
 ghost use Rattle.info_tree.specs.Tree.{mapping, pairs_of};
 ghost use Rattle.info_item.specs.View as spec;
 
@@ -32,7 +33,8 @@ fn pair_at(pairs: &TreeMap, place: usize) -> (&str, &Tree)
 
 /// Puts a copy of each pair of a map among others.
 pub(crate) fn put_all(alloc: Global, pairs: &mut TreeMap, more: &TreeMap) -> Result<(), OutOfMemory>
-    ensures { OnOk result (pairs.new ≡ spec.over pairs.old more.now) }
+    ensures over { OnOk result (pairs.new ≡ spec.over pairs.old more.now) }
+    ensures distinct { OnOk result (HaveDistinctKeys more.now) }
 {
     for place in 0..more.len() {
         let (key, tree) = pair_at(more, place);

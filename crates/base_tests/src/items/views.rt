@@ -36,8 +36,11 @@ fn a_view_of_two_parts_is_asked(rt: HostRuntime) {
         ("resolution", None),
         ("ext", Some(Some("mkv"))),
         ("filename", Some(Some("x.mkv"))),
+        ("requested_formats", Some(None)),
     ] {
-        assert_eq!(rt; view.get(key).map(Tree::as_text), text, "{key}");
+        let found = view.get(alloc, key).expect(&rt, "memory");
+        let told = found.as_ref().map(|found| found.tree().as_text());
+        assert_eq!(rt; told, text, "{key}");
     }
 }
 
