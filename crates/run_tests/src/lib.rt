@@ -1,6 +1,7 @@
+//! Tests of command words and of whole runs over sources and sinks in memory.
 #![tactic(auto)]
 
 #[cfg(test)]
-mod ytdl_core_tests;
+mod runs;
 #[cfg(test)]
-mod ytdl_core_word_tests;
+mod words;
