@@ -34,12 +34,9 @@ use Rattle.tpl_lang.proofs.AgainLemmas.{cond_yes, cond_no}
 use Rattle.tpl_lang.proofs.ExprSpells.{operation_some, operation_spells, date_part_some, date_part_spells, number_short, view_of, expr_spells}
 use Rattle.tpl_lang.proofs.ExprAgain.{date_part_again}
 use Rattle.tpl_lang.proofs.PathOpen.{list_cuts, word_cuts, path_behind_cuts, path_cuts}
-use Rattle.tpl_lang.proofs.OpenLemmas.{Reading, AtEnd, Less, CutsTo, Cuts, ended, past_cuts, pure_cuts, stop_cuts, end_cuts, same_cuts, nil_cuts, drop_cuts, Head, cond_ended, cond_same, cond_cuts, at_head, then_cuts, mark_cuts, run_kept, run_full, cut_run, run_cuts, run_head, some_run_cuts, all_cuts, takes_some, Edge, edge_cond, edge_bind, law_cuts, run_stays, Kept}
+use Rattle.tpl_lang.proofs.OpenLemmas.{Reading, AtEnd, Less, CutsTo, Cuts, ended, past_cuts, pure_cuts, stop_cuts, end_cuts, same_cuts, nil_cuts, drop_cuts, Head, cond_ended, cond_same, cond_cuts, at_head, then_cuts, mark_cuts, run_kept, run_full, cut_run, run_cuts, run_head, some_run_cuts, all_cuts, takes_some, Edge, edge_cond, edge_bind, law_cuts, run_stays, Kept, drop_all_of}
 
 -- ---- numbers
-
-drop_all_of : (n : ℕ) (s : List ℕ) → n ≡ length s → drop n s ≡ []
-drop_all_of n s e = nil_from_length (drop n s) (omega (arith, e, length-drop n s))
 
 goes_on_before : (u c : List ℕ) → 0 < length u → key_goes_on (u ++ c) ≡ key_goes_on u
 goes_on_before [] c h = absurd (omega (arith, h))
@@ -49,7 +46,7 @@ goes_on_before (b ∷ u) c h = refl
 abbrev Near : ℕ → ℕ → ℕ → Type 0
 Near whole cut len = ((whole ≡ cut) × (whole ≤ len)) ⊎ ((cut ≡ len) ⊎ (len < whole))
 
-abbrev point_of : Bool → ℕ → ℕ
+abbrev pub point_of : Bool → ℕ → ℕ
 point_of d n = cond d (1 + n) 0
 
 point_short : (d : Bool) (n len : ℕ) → n ≤ len → point_of d n ≤ 1 + len
@@ -88,7 +85,7 @@ point_near v c = elim (cases_lt (prefix_len is_digit (v ++ c)) (length v)) [
   | inr le ↦ point_outer v c le (has_decimals (v ++ c)) (has_decimals v) refl refl
 ]
 
-abbrev pointed : ℕ → ℕ → ℕ
+abbrev pub pointed : ℕ → ℕ → ℕ
 pointed n point = cond (eqb point 0) 0 (n + point)
 
 pointed_short : (v : Bool) (n point len : ℕ) → point ≤ len → cond v 0 (n + point) ≤ n + len
@@ -100,7 +97,7 @@ pointed_near n p q len some (inl h) = inl (ap (pointed n) h.0, pointed_short (eq
 pointed_near n p q len some (inr (inl h)) = inr (inl (cond_no (eqb q 0) 0 (n + q) (ne_eqb q 0 (λ e. omega (arith, e, h, some))) ∙ ap (λ (k : ℕ). n + k) h))
 pointed_near n p q len some (inr (inr h)) = inr (inr (subst (λ (k : ℕ). n + len < k) (sym (cond_no (eqb p 0) 0 (n + p) (ne_eqb p 0 (λ e. omega (arith, e, h))))) (omega (arith, h))))
 
-abbrev number_of : ℕ → List ℕ → ℕ
+abbrev pub number_of : ℕ → List ℕ → ℕ
 number_of n behind = cond (eqb n 0 || has_word behind) 0 (cond (not (is_at 46 behind)) n (pointed n (point_length behind)))
 
 behind_by : (v w : Bool) (n p q len : ℕ) → 0 < len → Near p q len → Near (cond v 0 (cond w n (pointed n p))) (cond v 0 (cond w n (pointed n q))) (n + len)
@@ -134,10 +131,10 @@ number_near s c some =
 
 -- ---- operands
 
-abbrev number_cut : ℕ → List ℕ → Reading Operand
+abbrev pub number_cut : ℕ → List ℕ → Reading Operand
 number_cut n t = Ok (operands.Number (size_of 1000 (take n t)), drop n t)
 
-abbrev path_operand : List ℕ → Reading Operand
+abbrev pub path_operand : List ℕ → Reading Operand
 path_operand t = word_at t >>= λ word. path_behind word.0 word.1 >>= λ path. Ok (operands.Path path.0, path.1)
 
 path_operand_cuts : Cuts path_operand
@@ -184,13 +181,13 @@ operand_cuts = record { less = λ t. operand_less (eqb (number_length t) 0) (num
 
 -- ---- operations
 
-abbrev operation_of : Op → List ℕ → Reading Operation
+abbrev pub operation_of : Op → List ℕ → Reading Operation
 operation_of op t = operand_at t >>= λ operand. Ok (record { op = op; operand = operand.0 }, operand.1)
 
 operation_of_cuts : (op : Op) → Cuts (operation_of op)
 operation_of_cuts op = then_cuts operand_at (λ operand r. Ok (record { op = op; operand = operand }, r)) operand_cuts (λ operand. pure_cuts (record { op = op; operand = operand }))
 
-operation_same : (a b c : Bool) (t : List ℕ) → cond a (operation_of Add (drop 1 t)) (cond b (operation_of Sub (drop 1 t)) (cond c (operation_of Mul (drop 1 t)) (Err (kinds.Syntax, length t)))) ≡ operation_by (cond a (Some Add) (cond b (Some Sub) (cond c (Some Mul) None))) t
+pub operation_same : (a b c : Bool) (t : List ℕ) → cond a (operation_of Add (drop 1 t)) (cond b (operation_of Sub (drop 1 t)) (cond c (operation_of Mul (drop 1 t)) (Err (kinds.Syntax, length t)))) ≡ operation_by (cond a (Some Add) (cond b (Some Sub) (cond c (Some Mul) None))) t
 operation_same true b c t = refl
 operation_same false true c t = refl
 operation_same false false true t = refl

@@ -34,9 +34,9 @@ use Rattle.tpl_lang.proofs.AgainLemmas.{step_on}
 use Rattle.tpl_lang.proofs.FieldSpells.{replacement_part_some, replacement_part_spells, type_spells, conv_of, field_of, IsFieldBy, field_by_spells}
 use Rattle.tpl_lang.proofs.FieldAgain.{replacement_part_again, type_again}
 use Rattle.tpl_lang.proofs.ExprOpen.{exprs_cuts}
-use Rattle.tpl_lang.proofs.OpenLemmas.{Reading, AtEnd, Less, CutsTo, Cuts, ended, past_cuts, pure_cuts, stop_cuts, end_cuts, same_cuts, nil_cuts, drop_cuts, Head, cond_ended, cond_same, cond_cuts, at_head, then_cuts, mark_cuts, run_kept, run_full, cut_run, run_cuts, run_head, some_run_cuts, all_cuts, takes_some, Edge, edge_cond, edge_bind, law_cuts, run_stays, Kept}
+use Rattle.tpl_lang.proofs.OpenLemmas.{Reading, AtEnd, Less, CutsTo, Cuts, ended, past_cuts, pure_cuts, stop_cuts, end_cuts, same_cuts, nil_cuts, drop_cuts, Head, cond_ended, cond_same, cond_cuts, at_head, then_cuts, mark_cuts, run_kept, run_full, cut_run, run_cuts, run_head, some_run_cuts, all_cuts, takes_some, Edge, edge_cond, edge_bind, law_cuts, run_stays, Kept, drop_all_of}
 
-abbrev given : {A : Type 0} → A × List ℕ → Reading A
+abbrev pub given : {A : Type 0} → A × List ℕ → Reading A
 given p = Ok p
 
 -- ---- replacements
@@ -70,10 +70,10 @@ run_edge : (v : Bool) (n : ℕ) (t : List ℕ) → Edge t (cond v (Err (Syntax, 
 run_edge true n t = inr refl
 run_edge false n t = tt
 
-abbrev text_of : List ℕ → Reading ReplacementPart
+abbrev pub text_of : List ℕ → Reading ReplacementPart
 text_of t = run_at Syntax (in_class ReplacementText) t >>= λ run. Ok (pieces.Text run.0, run.1)
 
-replacement_part_edge : (t : List ℕ) → Edge t (replacement_part_at t)
+pub replacement_part_edge : (t : List ℕ) → Edge t (replacement_part_at t)
 unfolding replacement_part_at
 replacement_part_edge t =
     edge_cond (is_at 123 t) t (cond (is_at 123 (drop 1 t)) (Ok (pieces.Text (codes "{"), drop 1 (drop 1 t))) (value_at t)) (cond (is_at 125 t) (cond (is_at 125 (drop 1 t)) (Ok (pieces.Text (codes "}"), drop 1 (drop 1 t))) (refused_brace t (drop 1 t))) (text_of t))
@@ -98,10 +98,10 @@ replacement_cuts = cond_cuts (is_at 38) (λ t. all_at in_replacement replacement
 
 -- ---- defaults
 
-abbrev default_run : List ℕ → Reading (Option (List ℕ))
+abbrev pub default_run : List ℕ → Reading (Option (List ℕ))
 default_run u = cut_run (prefix_len (in_class Default) u) u >>= λ run. Ok (Some run.0, run.1)
 
-default_same : (v : Bool) (t : List ℕ) → cond v (default_run (drop 1 t)) (Ok (None, t)) ≡ given (cond v (Some (take (prefix_len (in_class Default) (drop 1 t)) (drop 1 t)), drop (prefix_len (in_class Default) (drop 1 t)) (drop 1 t)) (None, t))
+pub default_same : (v : Bool) (t : List ℕ) → cond v (default_run (drop 1 t)) (Ok (None, t)) ≡ given (cond v (Some (take (prefix_len (in_class Default) (drop 1 t)) (drop 1 t)), drop (prefix_len (in_class Default) (drop 1 t)) (drop 1 t)) (None, t))
 default_same true t = refl
 default_same false t = refl
 
@@ -113,9 +113,6 @@ default_cuts = same_cuts (λ t. cond (is_at 124 t) (default_run (drop 1 t)) (Ok 
 
 abbrev short_by : ℕ → List ℕ → Reading (Option ℕ)
 short_by n t = cond (eqb n 0) (Ok (None, t)) (cond (ltb 5 n) (Err (Syntax, length (drop 5 t))) (Ok (Some (digits_value (take n t)), drop n t)))
-
-drop_all_of : (n : ℕ) (s : List ℕ) → n ≡ length s → drop n s ≡ []
-drop_all_of n s e = nil_from_length (drop n s) (omega (arith, e, length-drop n s))
 
 short_full_by : (a b : Bool) (n : ℕ) (s : List ℕ) → n ≡ length s → (a ≡ true → n ≡ 0) → b ≡ false → AtEnd {A = Option ℕ} (cond a (Ok (None, s)) (cond b (Err (Syntax, length (drop 5 s))) (Ok (Some (digits_value (take n s)), drop n s))))
 short_full_by true b n s e none h = nil_from_length s (omega (arith, e, none refl))
@@ -160,7 +157,7 @@ short_cuts = record { less = λ t. short_less (eqb (prefix_len is_digit t) 0) (l
 empty_head : Head (λ u. eqb (length u) 0)
 empty_head b r r' = ne_eqb (suc (length r)) 0 (λ e. omega (arith, e)) ∙ sym (ne_eqb (suc (length r')) 0 (λ e. omega (arith, e)))
 
-abbrev precise : List ℕ → Reading (Option ℕ)
+abbrev pub precise : List ℕ → Reading (Option ℕ)
 precise u = cond (eqb (length u) 0) (Err (TypeLetter, 0)) (cond (eqb (prefix_len is_digit u) 0) (Err (Syntax, length u)) (short_at u))
 
 precision_cuts : Cuts precision_at
@@ -220,14 +217,14 @@ conv_cuts =
 
 -- ---- fields
 
-abbrev closed : List ExprView → Option (List ReplacementPart) → Option (List ℕ) → Bool → List ℕ → Reading FieldView
+abbrev pub closed : List ExprView → Option (List ReplacementPart) → Option (List ℕ) → Bool → List ℕ → Reading FieldView
 closed exprs replacement default bare r = mark_at Syntax 41 r >>= λ rest. conv_at rest >>= λ conv. Ok (field_of exprs replacement default conv.0 bare, conv.1)
 
 closed_cuts : (exprs : List ExprView) (replacement : Option (List ReplacementPart)) (default : Option (List ℕ)) (bare : Bool) → Cuts (closed exprs replacement default bare)
 closed_cuts exprs replacement default bare = mark_cuts Syntax 41 (λ rest. conv_at rest >>= λ conv. Ok (field_of exprs replacement default conv.0 bare, conv.1))
     (then_cuts conv_at (λ conv r. Ok (field_of exprs replacement default conv bare, r)) conv_cuts (λ conv. pure_cuts (field_of exprs replacement default conv bare)))
 
-abbrev field_with : Bool → List ℕ → Reading FieldView
+abbrev pub field_with : Bool → List ℕ → Reading FieldView
 field_with bare t = exprs_at t >>= λ exprs. replacement_at exprs.1 >>= λ replacement. closed exprs.0 replacement.0 (default_of replacement.1).0 bare (default_of replacement.1).1
 
 field_with_cuts : (bare : Bool) → Cuts (field_with bare)
@@ -256,7 +253,7 @@ letter_before : (front : List ℕ) (b : ℕ) (u r r' : List ℕ) → is_at 115 (
 letter_before [] b u r r' = refl
 letter_before (d ∷ front) b u r r' = refl
 
-bare_front : (front : List ℕ) (b : ℕ) (u r r' : List ℕ) → is_bare (front ++ 41 ∷ b ∷ (u ++ r)) ≡ is_bare (front ++ 41 ∷ b ∷ (u ++ r'))
+pub bare_front : (front : List ℕ) (b : ℕ) (u r r' : List ℕ) → is_bare (front ++ 41 ∷ b ∷ (u ++ r)) ≡ is_bare (front ++ 41 ∷ b ∷ (u ++ r'))
 bare_front [] b u r r' = bare_first 41 (b ∷ (u ++ r)) ∙ sym (bare_first 41 (b ∷ (u ++ r')))
 bare_front (d ∷ front) b u r r' =
     bare_first d (front ++ 41 ∷ b ∷ (u ++ r))
@@ -264,7 +261,7 @@ bare_front (d ∷ front) b u r r' =
     ∙ sym (bare_first d (front ++ 41 ∷ b ∷ (u ++ r')))
 
 -- a text with a bracket and a byte behind it
-record Closes (w : List ℕ) : Type 0 where
+pub record Closes (w : List ℕ) : Type 0 where
   pub front : List ℕ
   pub byte : ℕ
   pub rest : List ℕ
@@ -294,7 +291,7 @@ conv_some s r x h =
     let kind = precision.4 in
     longer s h.0 h.1 h.5 (longer h.1 width.0 width.1 width.5 (longer width.1 precision.0 precision.1 precision.5 (longer_front precision.1 kind.0 kind.1 kind.5 (type_some kind.0 (kind.1 ++ r) kind.2 kind.3))))
 
-field_closes : (bare : Bool) (w q : List ℕ) (x : FieldView) → IsFieldBy bare w q x → Closes w
+pub field_closes : (bare : Bool) (w q : List ℕ) (x : FieldView) → IsFieldBy bare w q x → Closes w
 field_closes bare w q x h =
     let replacement = h.4 in
     let default = replacement.4 in
@@ -302,7 +299,7 @@ field_closes bare w q x h =
     closes_behind h.0 h.1 w h.5 (closes_behind replacement.0 replacement.1 h.1 replacement.5 (closes_behind default.0 default.1 replacement.1 default.5
     (closes_mark close.3.0 close.0 close.1 default.1 (conv_some close.3.0 (close.1 ++ q) close.2 close.3.1) close.3.2 close.5)))
 
-closes_with : (w r : List ℕ) (h : Closes w) → w ++ r ≡ h.front ++ 41 ∷ h.byte ∷ (h.rest ++ r)
+pub closes_with : (w r : List ℕ) (h : Closes w) → w ++ r ≡ h.front ++ 41 ∷ h.byte ∷ (h.rest ++ r)
 closes_with w r h = ap (λ (l : List ℕ). l ++ r) h.is ∙ append_assoc h.front (41 ∷ h.byte ∷ h.rest) r
 
 bare_kept : (bare : Bool) (s c q : List ℕ) (x : FieldView) → TakesSo (IsFieldBy bare) s (x, q) → is_bare (s ++ c) ≡ is_bare s

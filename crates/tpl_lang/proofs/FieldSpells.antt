@@ -25,7 +25,7 @@ use Rattle.tpl_lang.specs.Fields.{FieldView}
 use Rattle.tpl_lang.specs.ExprReading.{exprs_at}
 use Rattle.tpl_lang.specs.FieldReading.{refused_brace, align_of, aligned_at, value_at, in_replacement, replacement_part_at, replacement_at, default_of, flags_of, short_at, precision_at, is_length, first_kind, behind_length, type_by, type_at, conv_at, is_bare, field_at}
 use Rattle.tpl_lang.specs.Spelled.{IsEnd, Follows, Marked, IsExprs, IsReplacementPart, IsReplacement, IsDefault, IsShort, IsPrecision, IsType, IsConv, IsField}
-use Rattle.tpl_lang.proofs.SpellsLemmas.{TakesSo, SpellsSo, SpellsAt, end_spells, follows_spells, all_spells, run_stop, run_spells, some_run_spells}
+use Rattle.tpl_lang.proofs.SpellsLemmas.{TakesSo, SpellsSo, end_spells, follows_spells, all_spells, run_stop, run_spells, some_run_spells}
 use Rattle.tpl_lang.proofs.ExprSpells.{exprs_spells}
 
 -- ---- replacements

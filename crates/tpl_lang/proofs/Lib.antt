@@ -16,3 +16,8 @@ pub mod PathOpen
 pub mod ExprOpen
 pub mod FieldOpen
 pub mod ReadingOpen
+pub mod StayLemmas
+pub mod PathStays
+pub mod ExprStays
+pub mod FieldStays
+pub mod ReadingStays

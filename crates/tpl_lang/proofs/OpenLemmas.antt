@@ -59,6 +59,10 @@ pub past_cuts : {A : Type 0} (c : List ℕ) (z r : Reading A) → Past c z → C
 past_cuts c (Ok p) r h = λ big. absurd (omega (arith, big, h))
 past_cuts c (Err e) r h = λ same. absurd (omega (arith, same, h))
 
+-- nothing is left behind a whole text
+pub drop_all_of : (n : ℕ) (s : List ℕ) → n ≡ length s → drop n s ≡ []
+drop_all_of n s e = nil_from_length (drop n s) (omega (arith, e, length-drop n s))
+
 -- ---- the plain ones
 
 pub pure_cuts : {A : Type 0} (x : A) → Cuts (λ t. Ok (x, t))

@@ -20,7 +20,7 @@ use Rattle.tpl_lang.specs.Spelled.{IsSomeRun, IsKey, Marked}
 use Rattle.tpl_lang.proofs.AgainLemmas.{last_of_four, step_on, cond_no}
 use Rattle.tpl_lang.proofs.SpellsLemmas.{marked_some, marked_spells}
 use Rattle.tpl_lang.proofs.PathSpells.{word_spells, key_spells}
-use Rattle.tpl_lang.proofs.OpenLemmas.{Reading, AtEnd, Less, CutsTo, Cuts, ended, before_cut, past_cut, Past, past_cuts, pure_cuts, stop_cuts, same_cuts, nil_cuts, less_more, less_past, drop_cuts, Head, cond_ended, cond_same, cond_cuts, at_head, then_cuts, mark_cuts, run_kept, run_full, cut_run, run_cuts, some_run_cuts, all_cuts, takes_some}
+use Rattle.tpl_lang.proofs.OpenLemmas.{Reading, AtEnd, Less, CutsTo, Cuts, ended, before_cut, past_cut, Past, past_cuts, pure_cuts, stop_cuts, same_cuts, nil_cuts, less_more, less_past, drop_cuts, Head, cond_ended, cond_same, cond_cuts, at_head, then_cuts, mark_cuts, run_kept, run_full, cut_run, run_cuts, some_run_cuts, all_cuts, takes_some, drop_all_of}
 
 -- all behind a mark
 pub list_cuts : {A : Type 0} (mark : ℕ) (item : List ℕ → Reading A) (P : List ℕ → List ℕ → A → Type 0) → ((t : List ℕ) (p : A × List ℕ) → item t ≡ Ok p → (s : List ℕ) × P s p.1 p.0 × (t ≡ s ++ p.1)) → Cuts item → Cuts (all_at (is_at mark) (λ t. item (drop 1 t)))
@@ -38,11 +38,8 @@ abbrev digits_by : ℕ → List ℕ → Reading (List ℕ)
 digits_by n u =
     cond (eqb n 0) (Err (Syntax, length u)) (cond (ltb 18 n) (Err (Syntax, length (drop 18 u))) (cond (has_word (drop n u)) (Err (Syntax, length (drop n u))) (Ok (take n u, drop n u))))
 
-abbrev digits_at : List ℕ → Reading (List ℕ)
+abbrev pub digits_at : List ℕ → Reading (List ℕ)
 digits_at u = digits_by (prefix_len is_digit u) u
-
-drop_all_of : (n : ℕ) (s : List ℕ) → n ≡ length s → drop n s ≡ []
-drop_all_of n s e = nil_from_length (drop n s) (omega (arith, e, length-drop n s))
 
 full_by : (a b w : Bool) (n : ℕ) (s : List ℕ) → n ≡ length s → (a ≡ true → n ≡ 0) → b ≡ false → has_word (drop n s) ≡ w → AtEnd (cond a (Err (Syntax, length s)) (cond b (Err (Syntax, length (drop 18 s))) (cond w (Err (Syntax, length (drop n s))) (cut_run n s))))
 full_by true b w n s e none h k = omega (arith, e, none refl)
@@ -103,10 +100,10 @@ digits_cuts = record { less = λ t. digits_less (eqb (prefix_len is_digit t) 0) 
 
 -- ---- ints
 
-abbrev minus_then : List ℕ × List ℕ → Reading (List ℕ)
+abbrev pub minus_then : List ℕ × List ℕ → Reading (List ℕ)
 minus_then d = Ok (45 ∷ d.0, d.1)
 
-abbrev int_by_digits : List ℕ → Reading (List ℕ)
+abbrev pub int_by_digits : List ℕ → Reading (List ℕ)
 int_by_digits t = cond (is_at 45 t) (digits_at (drop 1 t) >>= minus_then) (digits_at t)
 
 abbrev counts : Bool → Bool → Bool → ℕ → List ℕ → Or TplKind ℕ
@@ -127,7 +124,7 @@ plain_same false true w n u = refl
 plain_same false false true n u = refl
 plain_same false false false n u = let none : n ≡ 0 + n = omega arith in ap (λ (k : ℕ). cut_run k u) none
 
-int_same : (v : Bool) (t : List ℕ) → is_at 45 t ≡ v → int_by_digits t ≡ int_at t
+pub int_same : (v : Bool) (t : List ℕ) → is_at 45 t ≡ v → int_by_digits t ≡ int_at t
 unfolding int_at int_length
 int_same v [] h = refl
 int_same true (b ∷ u) h =
@@ -218,10 +215,10 @@ int_full (b ∷ u) full some few =
 
 -- ---- slices
 
-abbrev some_int : List ℕ × List ℕ → Reading (Option ℤ)
+abbrev pub some_int : List ℕ × List ℕ → Reading (Option ℤ)
 some_int n = Ok (Some (int_value n.0), n.1)
 
-abbrev no_int : List ℕ → Reading (Option ℤ)
+abbrev pub no_int : List ℕ → Reading (Option ℤ)
 no_int t = Ok (None, t)
 
 int_bound_cuts : Cuts (λ t. int_at t >>= some_int)
@@ -345,7 +342,7 @@ slice_cuts from = then_cuts bound_at (λ to r. last_at r >>= λ step. Ok (keys.S
 
 -- ---- keys
 
-abbrev int_behind : List ℕ → List ℕ → Reading Key
+abbrev pub int_behind : List ℕ → List ℕ → Reading Key
 int_behind n t = cond (is_at 58 t) (slice_behind (Some (int_value n)) (drop 1 t)) (Ok (keys.Int n (int_value n), t))
 
 int_behind_cuts : (n : List ℕ) → Cuts (int_behind n)
@@ -361,7 +358,7 @@ int_key_end s full some few =
     let n = prefix_len is_digit s in
     subst (λ (z : Reading (List ℕ)). AtEnd (z >>= λ n. int_behind n.0 n.1)) (sym (int_full s full some few)) (subst (λ (l : List ℕ). AtEnd (int_behind (take n s) l)) (sym (drop_all_of n s full)) refl)
 
-abbrev word_key : List ℕ → Reading Key
+abbrev pub word_key : List ℕ → Reading Key
 word_key t = word_at t >>= λ word. Ok (keys.Word word.0, word.1)
 
 word_key_cuts : Cuts word_key

@@ -46,7 +46,7 @@ place_is kinds.Directive n = refl
 some_is : (n m : ℕ) → ◌≡◌ {A = Option ℕ} (Some n) (Some m) → n ≡ m
 some_is n m e = cc
 
-abbrev whole_of : Reading (List Part) → Or TplKind (List Part)
+abbrev pub whole_of : Reading (List Part) → Or TplKind (List Part)
 whole_of z = z >>= λ parts. Ok parts.0
 
 abbrev failed : TplKind × ℕ → Reading (List Part)
@@ -65,7 +65,7 @@ open_by t (Err d) e end =
 left_by : (front rest : List ℕ) (d : ℕ) → d ≤ length (front ++ rest) → length (front ++ rest) - d ≡ length front → d ≡ length rest
 left_by front rest d le e = omega (arith, le, e, length-append front rest)
 
-err_of : (z : Reading (List Part)) (d : TplKind × ℕ) → whole_of z ≡ Err d → z ≡ Err d
+pub err_of : (z : Reading (List Part)) (d : TplKind × ℕ) → whole_of z ≡ Err d → z ≡ Err d
 err_of (Ok p) d e = absurd cc
 err_of (Err c) d e = cc
 

@@ -25,7 +25,9 @@ pub use expr::{Constant, Expr, Op, Operand, Operation, Path};
 pub use fault::TplFault;
 pub use field::Field;
 pub use key::{Key, Slice, Words};
-pub use laws::{accepted_is_spelled, nothing_is_wrong_before_a_fault, spelled_is_accepted};
+pub use laws::{
+    accepted_is_spelled, nothing_is_wrong_before_a_fault, settled_fault_stays, spelled_is_accepted,
+};
 pub use reading::read_template;
 pub use replacement::{Align, Replacement, ReplacementPart};
 pub use template::{Part, Template};
