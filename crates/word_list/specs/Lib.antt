@@ -1,0 +1,14 @@
+pub mod Defaults
+pub mod Entries
+pub mod Faults
+pub mod Form
+pub mod Forms
+pub mod Groups
+pub mod OptionRows
+pub mod OptionTable
+pub mod Options
+pub mod Settings
+pub mod Uses
+pub mod Values
+pub mod Views
+pub mod Words
