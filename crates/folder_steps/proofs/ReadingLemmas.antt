@@ -1,13 +1,15 @@
 -- What is read of a file, a piece at a time.
-use Rattle.std.proofs.Common.{◌≡◌, ⊎_elim, ℕ, ◌+◌, ◌-◌, ◌<◌, ◌≤◌, ◌++◌, length, take, drop, Bool, true, false, refl, sym, ◌∙◌, ap, arith, append_assoc, take-append-drop}
+use Rattle.std.proofs.Common.{subst, ◌≡◌, ⊎_elim, ℕ, ◌+◌, ◌-◌, ◌<◌, ◌≤◌, ◌++◌, length, take, drop, Bool, true, false, refl, sym, ◌∙◌, ap, arith, append_assoc, take-append-drop}
 use Rattle.std.specs.Prelude.{Option, Some, None, option_map, unwrap_or, bytes_eq, nat_eq}
 use Rattle.std.specs.List.{starts_with}
 use Rattle.std.proofs.lemmas.Bool.Decides.{nat_tests}
-use Rattle.std.proofs.lemmas.List.{take_at, take_all, take-take, take_rest, drop-take, length-take-le}
+use Rattle.std.proofs.lemmas.List.{take_at, drop_at, take_all, take-take, take_rest, drop-take, length-take-le, length-drop}
 use Rattle.std.proofs.lemmas.Option.{same_Some}
 use Rattle.std.proofs.lemmas.Slice.Eq.{bytes_eq-Decides}
 use Rattle.folder_base.specs.Disk.{Bytes, File, content, begins}
-use Rattle.folder_base.specs.Names.{ReadsFile}
+use Rattle.std.proofs.lemmas.Slice.{take-put_mid}
+use borrow.Rule.Slice.PartMut.{put_mid, same_len_mid}
+use Rattle.folder_base.specs.Names.{ReadsAt, ReadsFile}
 use Rattle.folder_base.proofs.Listed.{begins_is}
 use Rattle.keep_store.proofs.Naming.{begins_split, begins_all}
 use Rattle.folder_steps.specs.Reading.{StandsAt, StandsIn, has_bytes}
@@ -94,3 +96,25 @@ tested bytes piece at result is = sym (begins_is piece (drop at bytes)) ∙ ap (
 
 pub none_there : (n : ℕ) → true ≡ nat_eq n 0 → n ≡ 0
 none_there n is = let e : nat_eq n 0 ≡ true = sym is in grind (arith, nat_tests, e)
+
+-- Room keeps its length while a part of it is read into,
+pub room_same : (room part : Bytes) (at : ℕ) → at ≤ length room → length part ≡ length room - at → length (put_mid at (length room - at) room part) ≡ length room
+room_same room part at within long = same_len_mid at (length room - at) room part (omega (arith, long, length-take-le (length room - at) (drop at room) (omega (arith, length-drop at room))))
+
+-- and has more of the file then.
+pub front_more : (o : Option File) (file : File) (room part : Bytes) (at count : ℕ) → o ≡ Some file → at ≤ length room → take at room ≡ take at (content file) → ReadsFile o at part count
+    → take (at + count) (put_mid at (length room - at) room part) ≡ take (at + count) (content file)
+front_more o file room part at count is within same read =
+    sym (take-take (at + count) (at + length part) (put_mid at (length room - at) room part) (omega (arith, reads.fits)))
+    ∙ ap (λ (b : Bytes). take (at + count) b) (take-put_mid at (length room - at) room part (at + length part) refl within)
+    ∙ take_plus at count (take at room ++ part)
+    ∙ (λ i. take_at (take at room) part at front i ++ take count (drop_at (take at room) part at front i))
+    ∙ ap (λ (b : Bytes). take at room ++ b) reads.bytes
+    ∙ ap (λ (b : Bytes). b ++ take count (drop at (content file))) same
+    ∙ sym (take_plus at count (content file))
+  where
+    reads : ReadsAt (content file) at part count
+    reads = subst (λ (p : Option File). ReadsFile p at part count) is read
+
+    front : length (take at room) ≡ at
+    front = length-take-le at room within

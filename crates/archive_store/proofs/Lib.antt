@@ -1,0 +1,4 @@
+pub mod GrownLemmas
+pub mod LineLemmas
+pub mod AddingLemmas
+pub mod CauseLemmas
