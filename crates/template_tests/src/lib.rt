@@ -1,6 +1,8 @@
-//! Tests of templates, and of texts in names and printed lines.
+//! Tests of templates, of what fields print, and of texts in names and printed lines.
 #![tactic(auto)]
 
+#[cfg(test)]
+mod field_texts;
 #[cfg(test)]
 mod names;
 #[cfg(test)]
