@@ -15,7 +15,7 @@ fn folder_of(alloc: Global, files: &[(&str, &str)]) -> Result<FolderMem, Fail>
     let mut made = Vec::new(alloc);
     for (name, bytes) in files {
         let name = Text::new(alloc, name)?;
-        let bytes = Vec::from_slice(alloc, bytes.as_bytes())?;
+        let bytes = bytes.as_bytes().to_vec(alloc)?;
         made.push(File { name, bytes })?;
     }
     Ok(FolderMem::new(alloc, made, Vec::new(alloc), None)?)

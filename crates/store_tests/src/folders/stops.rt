@@ -8,18 +8,33 @@ use std::alloc::Global;
 use std::test::Fail;
 use text_base::{Failed, FolderFault, Text};
 
+// A file of these bytes, synced.
+fn written(folder: &mut FolderMem, name: &str, bytes: &[u8]) -> Result<(), FolderFault>
+    requires { IsWhole (world_of folder.old) }
+    ensures { OnOk result (IsWhole (world_of folder.new)) }
+{
+    folder.create(name)?;
+    folder.append(name, bytes)?;
+    folder.sync(name)
+}
+
+// A file grows, and takes the place of a second one.
+fn replacing(folder: &mut FolderMem) -> Result<(), FolderFault>
+    requires { IsWhole (world_of folder.old) }
+{
+    folder.append("a", b" more")?;
+    folder.create("b")?;
+    folder.rename("a", "b")
+}
+
 // A file is written under another name, published, and put in the place of a second one.
 fn publish_twice(folder: &mut FolderMem) -> Result<(), FolderFault>
     requires { IsWhole (world_of folder.old) }
 {
-    folder.create("a.new")?;
-    folder.append("a.new", b"whole")?;
-    folder.sync("a.new")?;
+    written(folder, "a.new", b"whole")?;
     folder.rename("a.new", "a")?;
     folder.settle()?;
-    folder.append("a", b" more")?;
-    folder.create("b")?;
-    folder.rename("a", "b")
+    replacing(folder)
 }
 
 fn after_stop_at(alloc: Global, stop: u64, kept: u64) -> Result<FolderMem, Fail>
@@ -87,23 +102,27 @@ fn renamed_across(folder: &mut FolderMem) -> Result<(), FolderFault>
     requires { IsWhole (world_of folder.old) }
     ensures { OnOk result (IsWhole (world_of folder.new)) }
 {
-    folder.create("a")?;
-    folder.append("a", b"1")?;
-    folder.sync("a")?;
-    folder.create("v.a")?;
-    folder.append("v.a", b"2")?;
-    folder.sync("v.a")?;
-    folder.settle()?;
     folder.rename("a", "v")?;
     folder.rename("v.a", "b")?;
     folder.rename("b", "v.b")
+}
+
+// Two files that stand, and their names changed.
+fn written_and_renamed(folder: &mut FolderMem) -> Result<(), FolderFault>
+    requires { IsWhole (world_of folder.old) }
+    ensures { OnOk result (IsWhole (world_of folder.new)) }
+{
+    written(folder, "a", b"1")?;
+    written(folder, "v.a", b"2")?;
+    folder.settle()?;
+    renamed_across(folder)
 }
 
 fn changed_across(alloc: Global) -> Result<FolderMem, Fail>
     ensures { IfOk result (λ folder. IsWhole (world_of folder)) }
 {
     let mut folder = empty(alloc)?;
-    renamed_across(&mut folder)?;
+    written_and_renamed(&mut folder)?;
     let stems = two_stems(alloc, "u", "v")?;
     let (mut u, mut v) = two_parts(folder.fan(alloc, &stems)?)?;
     v.append("v", b"+")?;

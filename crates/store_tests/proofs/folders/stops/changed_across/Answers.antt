@@ -6,6 +6,6 @@ returns c =
     let gathered = c.gather.ensures.told refl in
     let fanned = c.in_ok-fan.ensures.told refl in
     record {
-      no_part = gathered.part ∙ c.create.ensures.cause.part ∙ fanned.part ∙ c.in_ok-renamed_across.ensures.no_part;
+      no_part = gathered.part ∙ c.create.ensures.cause.part ∙ fanned.part ∙ c.in_ok-written_and_renamed.ensures.no_part;
       none_out = gathered.out;
     }
