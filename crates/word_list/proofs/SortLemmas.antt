@@ -11,14 +11,13 @@ use Rattle.word_list.specs.declared.choosing.ChoosingValue.TheVariants.{Format, 
 use Rattle.word_list.specs.declared.fault.OptionFault.{OptionFault}
 use Rattle.word_list.specs.declared.fault.OptionFault.TheVariants.{BadValue, Sort as BadSort}
 use Rattle.word_list.specs.declared.fault.WordsFault.{WordsFault}
-use Rattle.word_list.specs.declared.fault.WordsFault.TheVariants.{Bad}
 use Rattle.word_list.specs.declared.meaning.Flag.{Flag}
 use Rattle.word_list.specs.declared.meaning.Flag.TheVariants as flags
 use Rattle.word_list.specs.declared.meaning.Valued.TheVariants as values
 use Rattle.word_list.specs.Entries.{containers_of}
 use Rattle.word_list.specs.Faults.{result_map, result_map_err, result_and_then}
-use Rattle.word_list.specs.Groups.{Choosing, sort_given, choosing_given, source_given, naming_given, showing_given, fetching_given, tools_given}
-use Rattle.word_list.specs.Settings.{Settings, no_settings, turned_on, value_given, used, after}
+use Rattle.word_list.specs.Groups.{Choosing, sort_given, source_given, naming_given, showing_given, fetching_given, tools_given}
+use Rattle.word_list.specs.Settings.{Settings, no_settings, turned_on, used, after}
 use Rattle.word_list.specs.Uses.{Use, turned, given, reading}
 use Rattle.word_list.specs.Values.{selector_of}
 use Rattle.word_list.specs.Words.{HaveAnOrder, IsOrder, sort_words}

@@ -1,5 +1,5 @@
 -- What stands where words say nothing.
-use Rattle.std.specs.Prelude.{ℕ, List, [], Bool, true, false, not, if◌then◌else◌, unwrap_or, Result, codes}
+use Rattle.std.specs.Prelude.{List, [], Bool, false, not, if◌then◌else◌, unwrap_or, Result, codes}
 use Rattle.std.specs.Result.{result_ok}
 use Rattle.sel_lang.specs.Plain.{Plain, first, merge, name, no_plains, a_plain}
 use Rattle.sel_lang.specs.declared.pick.Media.{Media}

@@ -1,5 +1,5 @@
 -- What words ask for, once all are read.
-use Rattle.std.specs.Prelude.{ℕ, List, Bool, true, false, ◌&&◌, not, if◌then◌else◌, Option, Some, None, Result, Ok, Err}
+use Rattle.std.specs.Prelude.{ℕ, List, Bool, true, ◌&&◌, not, if◌then◌else◌, Option, Some, None, Result, Ok, Err}
 use Rattle.fmt_sort.specs.Reading.{wish_when}
 use Rattle.fmt_sort.specs.Spec.{Wish}
 use Rattle.sel_lang.specs.Plain.{Plain}

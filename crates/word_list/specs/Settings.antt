@@ -1,5 +1,5 @@
 -- What words have set, and what uses of options set on top of it, one after the other, up to the first that is at fault.
-use Rattle.std.specs.Prelude.{ℕ, List, [], ◌∷◌, Result, Ok, Err}
+use Rattle.std.specs.Prelude.{ℕ, List, [], ◌∷◌, Result, Ok}
 use Rattle.word_list.specs.declared.fault.OptionFault.{OptionFault}
 use Rattle.word_list.specs.declared.fault.WordsFault.{WordsFault}
 use Rattle.word_list.specs.declared.fault.WordsFault.TheVariants.{Bad}

@@ -10,7 +10,6 @@ use Rattle.word_list.specs.declared.plan_options.Streams.{Streams as HeldStreams
 use Rattle.word_list.specs.declared.settings.Settings.{Settings as HeldSettings}
 use Rattle.word_list.specs.declared.showing.Showing.{Showing as HeldShowing}
 use Rattle.word_list.specs.declared.tools.Tools.{Tools as HeldTools}
-use Rattle.std.specs.Prelude.{Option, Some, None, List}
 use Rattle.word_list.specs.Groups.{Choosing, Showing, Tools}
 use Rattle.word_list.specs.Options.{Options, PlanOptions, Streams}
 use Rattle.word_list.specs.Settings.{Settings}

@@ -2,7 +2,6 @@ use Rattle.std.proofs.Common.{◌≡◌, ◌++◌, ◌∷◌, [], lit<, rules}
 use Rattle.std.specs.Prelude.{Some, None}
 use Rattle.std.proofs.lemmas.Result.{err_from_is_err_and}
 use Rattle.std.proofs.lemmas.Str.Pattern.{split_once_first}
-use Rattle.word_list.specs.Entries.{all_in, entries_of}
 use Rattle.word_list.specs.OptionRows.{texts_in}
 use Rattle.word_list.proofs.EntryLemmas.{fault_here, read_here, fault_last, read_last}
 use Rattle.word_list.proofs.entries.all_of.Goals as goal

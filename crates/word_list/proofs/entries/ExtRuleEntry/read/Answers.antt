@@ -1,4 +1,4 @@
-use Rattle.std.proofs.Common.{◌∙◌, sym, lit<}
+use Rattle.std.proofs.Common.{lit<}
 use Rattle.std.specs.Prelude.{Some, None}
 use Rattle.std.proofs.lemmas.Str.Pattern.{split_once_first}
 use Rattle.word_list.specs.OptionRows.{texts_in}
