@@ -1,6 +1,8 @@
-//! Tests of patterns and of the reading of selectors.
+//! Tests of patterns, of the reading of selectors and of what they choose.
 #![tactic(auto)]
 
+#[cfg(test)]
+mod choices;
 #[cfg(test)]
 mod patterns;
 #[cfg(test)]
