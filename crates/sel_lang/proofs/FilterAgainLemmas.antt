@@ -1,6 +1,6 @@
 -- What is spelled as a filter is read so.
-use Rattle.std.proofs.Common.{◌≡◌, ℕ, zero, suc, ◌<◌, ◌≤◌, Bool, true, false, not, cond, List, [], ◌∷◌, ◌++◌, length, drop, Option, Some, None, Result, Ok, Err, refl, sym, ap, subst, ◌∙◌, append_assoc, arith, inl, inr, ◌⊎◌}
-use Rattle.std.specs.Prelude.{◌==◌, codes}
+use Rattle.std.proofs.Common.{◌≡◌, ℕ, ◌<◌, Bool, true, false, not, cond, List, [], ◌∷◌, ◌++◌, length, drop, Option, Some, None, Ok, refl, sym, ap, subst, ◌∙◌, append_assoc, arith, inl, inr, ◌⊎◌}
+use Rattle.std.specs.Prelude.{◌==◌}
 use Rattle.std.proofs.lemmas.Bool.{eqb-true, eq-eqb}
 use Rattle.std.proofs.lemmas.List.{append-nil}
 use Rattle.text_base.specs.Number.{Number}
@@ -8,15 +8,15 @@ use Rattle.text_base.specs.Size.{size_of}
 use Rattle.text_base.specs.Spelling.{digits_length}
 use Rattle.text_base.specs.declared.fields.NumField.{NumField}
 use Rattle.text_base.specs.declared.fields.TextField.{TextField}
-use Rattle.read_base.specs.Reads.{◌>>=◌, Read, skip, is_at, run_at}
+use Rattle.read_base.specs.Reads.{Read, skip, is_at, run_at}
 use Rattle.read_base.specs.Spelled.{AreAll, IsGap, Spaced, Then}
 use Rattle.read_base.specs.Laws.{Again, head_is}
 use Rattle.read_base.proofs.StepLemmas.{run_again}
 use Rattle.read_base.proofs.AgainLemmas.{gap_skipped, to_mark, then_again}
 use Rattle.sel_lang.specs.Plain.{PlainFilter}
 use Rattle.sel_lang.specs.Marks.{is_field_byte, is_value_byte}
-use Rattle.sel_lang.specs.Filters.{field_named, found, field_at, or_equal, num_op_at, op_mark, with_equal, plain_op, negated_op, text_op_at, has_mark, behind_mark, marked_at, num_value_at, put, unquoted, closed_quote, text_value_at, can_have, value_start, tested_at, ended, num_filter_at, text_filter_at, tail_at, filter_at}
-use Rattle.sel_lang.specs.Spelled.{IsField, num_op_text, plain_op_text, text_op_text, IsMarked, IsNumValue, IsRun, IsBody, IsQuoted, IsTextValue, IsEnd, IsNumFilter, IsTextFilter, IsTail, IsFilter}
+use Rattle.sel_lang.specs.Filters.{field_named, found, field_at, num_op_at, op_mark, plain_op, text_op_at, has_mark, behind_mark, marked_at, num_value_at, unquoted, closed_quote, text_value_at, can_have, tested_at, ended, num_filter_at, text_filter_at, tail_at, filter_at}
+use Rattle.sel_lang.specs.Spelled.{IsField, num_op_text, text_op_text, IsMarked, IsNumValue, IsRun, IsBody, IsQuoted, IsTextValue, IsEnd, IsNumFilter, IsTextFilter, IsTail, IsFilter}
 use Rattle.sel_lang.specs.declared.filter.NumOp.{NumOp}
 use Rattle.sel_lang.specs.declared.filter.NumOp.TheVariants as nums
 use Rattle.sel_lang.specs.declared.filter.TextOp.{TextOp}
@@ -24,7 +24,7 @@ use Rattle.sel_lang.specs.declared.filter.TextOp.TheVariants as texts
 use Rattle.sel_lang.specs.declared.field_name.FieldName.{FieldName}
 use Rattle.sel_lang.specs.declared.field_name.FieldName.TheVariants as names
 use Rattle.sel_lang.specs.declared.sel_kind.SelKind.{SelKind}
-use Rattle.sel_lang.specs.declared.sel_kind.SelKind.TheVariants.{Syntax, Field, Value, Regex}
+use Rattle.sel_lang.specs.declared.sel_kind.SelKind.TheVariants.{Syntax, Field, Value}
 use Rattle.sel_lang.proofs.FilterParts.{num_made, num_value, num_rest, IsNumRest, text_made, text_value, text_rest, IsTextRest}
 
 -- before any rest

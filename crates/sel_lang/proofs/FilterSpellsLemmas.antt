@@ -1,19 +1,18 @@
 -- What is read as a filter is spelled so.
-use Rattle.std.proofs.Common.{◌≡◌, ℕ, zero, suc, Bool, true, false, ◌&&◌, cond, List, [], ◌∷◌, ◌++◌, length, drop, Option, Some, None, Result, Ok, Err, refl, sym, ap, subst, ◌∙◌, append_assoc, arith, inl, inr, ◌⊎◌}
+use Rattle.std.proofs.Common.{◌≡◌, ℕ, Bool, true, false, ◌&&◌, cond, List, [], ◌∷◌, ◌++◌, length, drop, Option, Some, None, Result, Ok, Err, refl, sym, ap, subst, ◌∙◌, append_assoc, inl, inr, ◌⊎◌}
 use Rattle.std.specs.Prelude.{◌==◌, codes}
 use Rattle.std.proofs.lemmas.Bool.{eqb-true}
-use Rattle.text_base.specs.Number.{Number}
 use Rattle.text_base.specs.Size.{size_of}
 use Rattle.text_base.specs.declared.fields.NumField.{NumField}
 use Rattle.text_base.specs.declared.fields.TextField.{TextField}
-use Rattle.read_base.specs.Reads.{◌>>=◌, Read, skip, is_at, run_at}
-use Rattle.read_base.specs.Spelled.{Spaced, Then}
+use Rattle.read_base.specs.Reads.{Read, skip, is_at, run_at}
+use Rattle.read_base.specs.Spelled.{Spaced}
 use Rattle.read_base.specs.Laws.{Takes, Spells}
-use Rattle.read_base.proofs.StepLemmas.{bind_ok, ok_is, done, chosen, gap_parts, marked, run_is}
+use Rattle.read_base.proofs.StepLemmas.{bind_ok, ok_is, chosen, gap_parts, marked, run_is}
 use Rattle.read_base.proofs.SpellsLemmas.{spaced_spells, then_spells}
 use Rattle.sel_lang.specs.Plain.{PlainFilter}
 use Rattle.sel_lang.specs.Marks.{is_field_byte, is_value_byte}
-use Rattle.sel_lang.specs.Filters.{field_named, found, field_at, or_equal, num_op_at, op_mark, with_equal, plain_op, negated_op, text_op_at, has_mark, behind_mark, marked_at, num_value_at, put, unquoted, closed_quote, text_value_at, can_have, value_start, tested_at, ended, num_filter_at, text_filter_at, tail_at, filter_at}
+use Rattle.sel_lang.specs.Filters.{field_named, found, field_at, num_op_at, op_mark, with_equal, plain_op, negated_op, text_op_at, has_mark, behind_mark, marked_at, num_value_at, put, unquoted, closed_quote, text_value_at, can_have, value_start, tested_at, ended, num_filter_at, text_filter_at, tail_at, filter_at}
 use Rattle.sel_lang.specs.Spelled.{IsField, num_op_text, plain_op_text, text_op_text, IsMarked, IsNumValue, IsRun, IsBody, IsQuoted, IsTextValue, IsEnd, IsNumFilter, IsTextFilter, IsTail, IsFilter}
 use Rattle.sel_lang.specs.declared.filter.NumOp.{NumOp}
 use Rattle.sel_lang.specs.declared.filter.NumOp.TheVariants as nums
@@ -22,7 +21,7 @@ use Rattle.sel_lang.specs.declared.filter.TextOp.TheVariants as texts
 use Rattle.sel_lang.specs.declared.field_name.FieldName.{FieldName}
 use Rattle.sel_lang.specs.declared.field_name.FieldName.TheVariants as names
 use Rattle.sel_lang.specs.declared.sel_kind.SelKind.{SelKind}
-use Rattle.sel_lang.specs.declared.sel_kind.SelKind.TheVariants.{Syntax, Quote, Field, Value, Regex}
+use Rattle.sel_lang.specs.declared.sel_kind.SelKind.TheVariants.{Syntax, Field, Value, Regex}
 use Rattle.sel_lang.proofs.FilterParts.{num_made, num_value, num_rest, IsNumRest, text_made, text_value, text_rest, IsTextRest}
 
 abbrev read : {A : Type 0} → A → Result A (SelKind × ℕ)
@@ -175,10 +174,10 @@ num_value_spells t p e =
 abbrev pub pair : List ℕ × List ℕ → Option (List ℕ × List ℕ)
 pair x = Some x
 
-pair_is : (x y : List ℕ × List ℕ) → pair x ≡ pair y → x ≡ y
+pub pair_is : (x y : List ℕ × List ℕ) → pair x ≡ pair y → x ≡ y
 pair_is x y e = cc
 
-put_some : (b : ℕ) (r : Option (List ℕ × List ℕ)) (x : List ℕ × List ℕ) → put b r ≡ Some x → (y : List ℕ × List ℕ) × (r ≡ Some y) × ((b ∷ y.0, y.1) ≡ x)
+pub put_some : (b : ℕ) (r : Option (List ℕ × List ℕ)) (x : List ℕ × List ℕ) → put b r ≡ Some x → (y : List ℕ × List ℕ) × (r ≡ Some y) × ((b ∷ y.0, y.1) ≡ x)
 put_some b None x e = absurd cc
 put_some b (Some y) x e = (y, refl, pair_is (b ∷ y.0, y.1) x e)
 

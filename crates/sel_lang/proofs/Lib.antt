@@ -1,8 +1,16 @@
 mod CutLemmas
 mod FilterAgainLemmas
+mod FilterOpensLemmas
 mod FilterParts
+mod FilterPlaceLemmas
 mod FilterSpellsLemmas
+mod FilterStaysLemmas
+mod PlaceLemmas
 mod QuoteLemmas
+mod QuoteStaysLemmas
 mod Ranks
 mod ReadAgainLemmas
+mod ReadOpensLemmas
+mod ReadPlaceLemmas
 mod ReadSpellsLemmas
+mod ReadStaysLemmas

@@ -1,11 +1,11 @@
 -- What is spelled as a selector is read so.
-use Rattle.std.proofs.Common.{◌≡◌, ℕ, zero, suc, ◌<◌, ◌≤◌, Bool, true, false, not, ◌||◌, List, [], ◌∷◌, ◌++◌, length, drop, Result, Ok, Err, refl, sym, ap, subst, ◌∙◌, append_assoc, arith, inl, inr}
+use Rattle.std.proofs.Common.{◌≡◌, ℕ, zero, suc, ◌<◌, Bool, true, false, not, ◌||◌, List, [], ◌∷◌, ◌++◌, length, drop, Ok, Err, refl, sym, ap, subst, ◌∙◌, append_assoc, arith, inl, inr}
 use Rattle.std.specs.Prelude.{◌==◌}
-use Rattle.std.proofs.lemmas.Bool.{eqb-true, eq-eqb}
+use Rattle.std.proofs.lemmas.Bool.{eq-eqb}
 use Rattle.std.proofs.lemmas.List.{append-nil, length-append}
-use Rattle.read_base.specs.Reads.{◌>>=◌, Read, skip, is_at, mark_at, run_at, all_at, placed}
-use Rattle.read_base.specs.Spelled.{AreAll, IsGap, Spaced, Behind, IsMore}
-use Rattle.read_base.specs.Laws.{Again, head_is}
+use Rattle.read_base.specs.Reads.{Read, skip, is_at, mark_at, run_at, all_at, placed}
+use Rattle.read_base.specs.Spelled.{IsGap, Spaced, Behind, IsMore}
+use Rattle.read_base.specs.Laws.{Again}
 use Rattle.read_base.proofs.StepLemmas.{run_again}
 use Rattle.read_base.proofs.AgainLemmas.{gap_skipped, to_mark, Items, more_free, all_again}
 use Rattle.sel_lang.specs.Plain.{Plain, PlainFilter, name, narrowed}
@@ -13,12 +13,12 @@ use Rattle.sel_lang.specs.Marks.{is_name_byte}
 use Rattle.sel_lang.specs.Names.{pick_of, best}
 use Rattle.sel_lang.specs.Filters.{filter_at}
 use Rattle.sel_lang.specs.Reading.{is_next, behind, filtered, mark_of, joined, joined_at, atom_over, spec_over, atom_at, whole_at, fault_of, sel_of}
-use Rattle.sel_lang.specs.Spelled.{IsRun, IsFilter, IsFiltered, IsNamed, IsBest, IsGrouped, IsAtomOver, IsJoined, IsSpecOver, IsAtom, IsSpelled}
+use Rattle.sel_lang.specs.Spelled.{IsFilter, IsFiltered, IsNamed, IsBest, IsGrouped, IsAtomOver, IsJoined, IsSpecOver, IsAtom, IsSpelled}
 use Rattle.sel_lang.specs.declared.sel_kind.SelKind.{SelKind}
 use Rattle.sel_lang.specs.declared.sel_kind.SelKind.TheVariants.{Syntax, Depth}
 use Rattle.sel_lang.specs.declared.joint.Joint.{Joint}
 use Rattle.sel_lang.specs.declared.joint.Joint.TheVariants.{Comma, Slash, Plus}
-use Rattle.sel_lang.proofs.FilterAgainLemmas.{Any, Ends, gap_ends, filter_again, run_front, solid_run}
+use Rattle.sel_lang.proofs.FilterAgainLemmas.{Ends, gap_ends, filter_again, run_front, solid_run}
 
 -- no name goes on, and the next token is none that the test passes
 pub record Free (p : ℕ → Bool) (r : List ℕ) : Type 0 where

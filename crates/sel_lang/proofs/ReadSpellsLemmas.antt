@@ -1,5 +1,5 @@
 -- What is read as a selector is spelled so.
-use Rattle.std.proofs.Common.{◌≡◌, ℕ, zero, suc, Bool, true, false, cond, eqb, List, [], ◌∷◌, ◌++◌, length, drop, Result, Ok, Err, refl, sym, ap, subst, ◌∙◌, append_assoc, arith, inl, inr}
+use Rattle.std.proofs.Common.{◌≡◌, ℕ, zero, suc, true, false, cond, eqb, List, [], ◌∷◌, ◌++◌, length, drop, Result, Ok, Err, refl, sym, ap, subst, ◌∙◌, append_assoc, arith, inl, inr}
 use Rattle.std.specs.Prelude.{◌==◌}
 use Rattle.std.proofs.lemmas.Bool.{eqb-true, eq-eqb}
 use Rattle.std.proofs.lemmas.List.{append-nil, nil_from_length}
@@ -51,7 +51,7 @@ joined_spells joint operand P law t p e =
     subst (λ (q : Plain × List ℕ). Takes (IsJoined joint P) t q) (read_is (joined joint a.0.0 b.0.0, b.0.1) p b.2)
     (one.0 ++ others.0, (one.0, others.0, a.0.0, b.0.0, one.1, others.1, refl, refl), one.2 ∙ ap (λ (l : List ℕ). one.0 ++ l) others.2 ∙ sym (append_assoc one.0 others.0 b.0.1))
 
-group_joins : (t t1 t2 t3 t4 inner gap rest r : List ℕ) → t ≡ 40 ∷ t1 → t1 ≡ inner ++ t2 → t2 ≡ gap ++ t3 → t3 ≡ 41 ∷ t4 → t4 ≡ rest ++ r → t ≡ (40 ∷ (inner ++ (gap ++ 41 ∷ rest))) ++ r
+pub group_joins : (t t1 t2 t3 t4 inner gap rest r : List ℕ) → t ≡ 40 ∷ t1 → t1 ≡ inner ++ t2 → t2 ≡ gap ++ t3 → t3 ≡ 41 ∷ t4 → t4 ≡ rest ++ r → t ≡ (40 ∷ (inner ++ (gap ++ 41 ∷ rest))) ++ r
 group_joins t t1 t2 t3 t4 inner gap rest r e1 e2 e3 e4 e5 = rw (e1, e2, e3, e4, e5) (simp append_assoc)
 
 -- what a group's reader takes stands behind the bracket

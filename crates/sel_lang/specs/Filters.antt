@@ -1,5 +1,5 @@
 -- Filters, read behind their bracket from left to right: field, operator, `?`, value, `]`, with spaces between them.
-use Rattle.std.specs.Prelude.{ℕ, List, [], ◌∷◌, length, drop, Bool, true, false, ◌||◌, ◌&&◌, ◌==◌, not, find, if◌then◌else◌, Option, Some, None, Result, Ok, Err}
+use Rattle.std.specs.Prelude.{ℕ, List, [], ◌∷◌, length, drop, Bool, true, false, ◌||◌, ◌&&◌, ◌==◌, find, if◌then◌else◌, Option, Some, None, Ok, Err}
 use Rattle.std.specs.Option.{option_map}
 use Rattle.std.specs.Str.{bytes_eq}
 use Rattle.text_base.specs.Number.{Number}
@@ -11,7 +11,7 @@ use Rattle.text_base.specs.declared.fields.TextField.{TextField}
 use Rattle.text_base.specs.declared.fields.TextField.TheVariants.{Url, Ext, Acodec, Vcodec, Container, Protocol, Language, DynamicRange, FormatId, Format, FormatNote, Resolution}
 use Rattle.text_pattern.specs.Patterns.{is_pattern}
 use Rattle.read_base.specs.Reads.{◌>>=◌, Read, skip, is_at, run_at}
-use Rattle.sel_lang.specs.Marks.{is_field_byte, is_value_byte, is_quote}
+use Rattle.sel_lang.specs.Marks.{is_field_byte, is_value_byte}
 use Rattle.sel_lang.specs.Plain.{PlainFilter, num, text}
 use Rattle.sel_lang.specs.declared.filter.NumOp.{NumOp}
 use Rattle.sel_lang.specs.declared.filter.NumOp.TheVariants as nums

@@ -1,5 +1,5 @@
 -- Which formats a name stands for, by the first that fits: `all`, `mergeall`, a special name, an extension, an id.
-use Rattle.std.specs.Prelude.{ℕ, ◌-◌, ◌^◌, List, [], ◌∷◌, length, take, drop, Bool, true, false, ◌||◌, ◌&&◌, ◌==◌, not, nat_le, min, if◌then◌else◌, Option, Some, None, codes}
+use Rattle.std.specs.Prelude.{ℕ, ◌-◌, ◌^◌, List, length, take, drop, Bool, true, false, ◌||◌, ◌&&◌, ◌==◌, not, nat_le, min, if◌then◌else◌, Option, Some, None, codes}
 use Rattle.std.specs.List.{list_all}
 use Rattle.std.specs.Option.{option_and_then, option_map}
 use Rattle.std.specs.Str.{bytes_eq}

@@ -1,7 +1,7 @@
 -- Selectors read from left to right, to the first fault.
 use Rattle.std.specs.Prelude.{◌≡◌, ℕ, zero, suc, List, [], ◌∷◌, length, drop, Bool, ◌==◌, Result, Ok, Err, if◌then◌else◌}
 use Rattle.read_base.specs.Reads.{◌>>=◌, Or, Read, skip, is_at, mark_at, run_at, all_at, placed}
-use Rattle.sel_lang.specs.Plain.{Plain, PlainFilter, list, first, merge, name, plains_of, narrowed}
+use Rattle.sel_lang.specs.Plain.{Plain, list, first, merge, name, plains_of, narrowed}
 use Rattle.sel_lang.specs.Marks.{is_name_byte}
 use Rattle.sel_lang.specs.Names.{pick_of, best}
 use Rattle.sel_lang.specs.Filters.{filter_at}

@@ -17,7 +17,7 @@ mod sel_kind;
 mod values;
 
 pub use filter::{Filter, NumOp, TextOp, TextTest};
-pub use laws::spelled_is_accepted;
+pub use laws::{nothing_is_wrong_before_a_fault, settled_fault_stays, spelled_is_accepted};
 pub use pick::{Media, Pick};
 pub use reading::read_sel;
 pub use sel::Sel;

@@ -1,6 +1,6 @@
 /// Why a reader of selectors gives up, without the place.
 #[derive(Clone, Copy, Debug, PartialEq, Eq)]
-pub(crate) enum SelKind {
+pub enum SelKind {
     Syntax,
     /// A quote without its partner.
     Quote,

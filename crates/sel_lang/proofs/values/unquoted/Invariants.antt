@@ -1,7 +1,6 @@
 use Rattle.std.proofs.Common.{◌≡◌, length, false}
 use Rattle.std.specs.Str.Iter.{chars_rest}
 use Rattle.std.specs.String.{string_bytes}
-use Rattle.std.specs.Str.{IsUtf8}
 use Rattle.sel_lang.specs.Filters.{unquoted}
 use Rattle.sel_lang.proofs.QuoteLemmas.{after_front}
 use Rattle.sel_lang.proofs.values.unquoted.Given as goal
