@@ -1,6 +1,7 @@
 pub mod FamilyLemmas
 pub mod RefuseLemmas
 pub mod ClearLemmas
+pub mod LastLemmas
 pub mod SoundLemmas
 pub mod BeginLemmas
 pub mod JoinLemmas

@@ -10,6 +10,7 @@ ghost use Rattle.folder_steps.specs.Reading.{has_bytes};
 ghost use Rattle.plan_record.specs.Names.{record_of, spare_of};
 ghost use Rattle.component_store.specs.Component.{Web, ComponentSound};
 ghost use Rattle.component_store.specs.Target.{component_of};
+ghost use Rattle.component_store.specs.Tidy.{UnderRecord};
 ghost use Rattle.component_store.specs.Begin.{goes_on, begun_as, begun_names, IsBeginning, IsStarting, IsStarted, InAll};
 
 use crate::begun::Begun;
@@ -39,6 +40,11 @@ fn start<F: Folder>(
         → OnOk result
         (IsStarted (component_of target.now) target.now.is_final plan.now
         (F.world folder.old).story.now (F.world folder.new).story.now) }
+    ensures last { IsTrue (F.world folder.new).tells
+        → Always (UnderRecord (component_of target.now) target.now.is_final)
+        (F.world folder.old).story.now
+        → Through (F.world folder.old).story (F.world folder.new).story
+        (UnderRecord (component_of target.now) target.now.is_final) }
 {
     let left = Left {
         component: target.is_final,
@@ -169,6 +175,11 @@ impl Target {
             → Always (ComponentSound web (component_of self.now)) (F.world folder.old).story.now
             → Through (F.world folder.old).story (F.world folder.new).story
             (ComponentSound web (component_of self.now)) }
+        ensures last { IsTrue (F.world folder.new).tells
+            → Always (UnderRecord (component_of self.now) self.now.is_final)
+            (F.world folder.old).story.now
+            → Through (F.world folder.old).story (F.world folder.new).story
+            (UnderRecord (component_of self.now) self.now.is_final) }
         ensures answer { IsTrue (F.world folder.new).tells
             → IfOk result
             (λ begun. begun ≡ begun_as

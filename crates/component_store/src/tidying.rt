@@ -8,7 +8,7 @@ ghost use Rattle.keep_store.specs.Publish.{Stays};
 ghost use Rattle.folder_steps.specs.Follow.{Always, Follows, Thinner, IsLive};
 ghost use Rattle.component_store.specs.Component.{Web, ComponentSound};
 ghost use Rattle.component_store.specs.Target.{component_of};
-ghost use Rattle.component_store.specs.Tidy.{is_tidied};
+ghost use Rattle.component_store.specs.Tidy.{is_tidied, UnderRecord};
 
 use crate::clearing::{Left, clear};
 use crate::target::Target;
@@ -62,6 +62,11 @@ impl Target {
             → Always (ComponentSound web (component_of self.now)) (F.world folder.old).story.now
             → Through (F.world folder.old).story (F.world folder.new).story
             (ComponentSound web (component_of self.now)) }
+        ensures last { IsTrue (F.world folder.new).tells
+            → Always (UnderRecord (component_of self.now) (self.now.is_final || keep))
+            (F.world folder.old).story.now
+            → Through (F.world folder.old).story (F.world folder.new).story
+            (UnderRecord (component_of self.now) (self.now.is_final || keep)) }
         ensures live { IsTrue (F.world folder.new).tells
             → OnOk result
             (IsLive (λ name. if is_tidied (component_of self.now) self.now.is_final keep

@@ -1,9 +1,10 @@
-use Rattle.std.proofs.Common.{◌≡◌, ◌∙◌, ap, sym, subst, refl, inl, inr}
-use Rattle.std.specs.Prelude.{string_bytes}
+use Rattle.std.proofs.Common.{◌≡◌, ◌∙◌, ap, sym, subst, refl, inl, inr, Bool, false}
+use Rattle.std.specs.Prelude.{string_bytes, None, if◌then◌else◌}
 use Rattle.folder_base.specs.Disk.{Name, Disk, Image, May}
 use Rattle.folder_base.proofs.Moments.{joined, weaker}
 use Rattle.folder_steps.proofs.ImageLemmas.{ends, settled_only}
 use Rattle.component_store.proofs.BeginLemmas.{begun_step, clear_only, begun_done}
+use Rattle.component_store.proofs.LastLemmas.{under_goes, under_started}
 use Rattle.std.proofs.lemmas.Result.{err_from_is_err_and}
 use Rattle.keep_store.specs.TookLaws.{stays_both}
 use Rattle.component_store.proofs.RefuseLemmas.{later, if_later}
@@ -51,3 +52,26 @@ returns-in_err-settle-clause-refused g c =
 
 pub returns-clause-refused : goal.returns-clause-refused
 returns-clause-refused g c = if_later _ c.replace.result (stays_both c.clear.ensures.kept c.settle.ensures.kept) c.replace.ensures.refused
+
+pub returns-in_err-clear-clause-last : goal.returns-in_err-clear-clause-last
+returns-in_err-clear-clause-last g c t always = c.clear.ensures.last t always
+
+pub returns-in_err-settle-clause-last : goal.returns-in_err-settle-clause-last
+returns-in_err-settle-clause-last g c t always =
+    let first = c.clear.ensures.last (c.settle.ensures.kept.tells t) always in
+    joined first (weaker (c.settle.ensures.moments t) (λ image h. ends first image h))
+
+pub returns-clause-last : goal.returns-clause-last
+returns-clause-last g c t always =
+    let C = string_bytes c.args.target.now.name in
+    let final = c.args.target.now.is_final in
+    let old = (g.F.Folder.world c.args.folder.now).story.now in
+    let t2 = c.replace.ensures.kept.tells t in
+    let t1 = c.settle.ensures.kept.tells t2 in
+    let cleared = c.clear.ensures.last t1 always in
+    let first = joined cleared (weaker (c.settle.ensures.moments t2) (λ image h. ends cleared image h)) in
+    let settled = c.in_ok-settle.ensures.done t2 in
+    under_started C final _ first
+    (λ n mine. ap (λ (d : Disk). d.live n) settled ∙ c.in_ok-clear.ensures.gone t1 n ∙ ap (λ (b : Bool). if b then None else old.live n) (under_goes C final false n mine))
+    (settled_only (g.F.Folder.world c.clear.new.folder).story.now (g.F.Folder.world c.settle.new.folder).story.now settled)
+    (c.as_str.ensures.value ∙ c.args.target.now.spare_is) (c.as_str-2.ensures.value ∙ c.args.target.now.record_is) (c.replace.ensures.moments t)

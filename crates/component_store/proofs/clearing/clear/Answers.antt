@@ -1,9 +1,10 @@
-use Rattle.std.proofs.Common.{◌≡◌, ◌∙◌, refl}
+use Rattle.std.proofs.Common.{◌≡◌, ◌∙◌, refl, true}
 use Rattle.std.specs.Prelude.{string_bytes}
 use Rattle.std.proofs.lemmas.Result.{on_ok_weaker}
 use Rattle.component_store.specs.Tidy.{is_cleared}
 use Rattle.folder_steps.proofs.RemovalLemmas.{unchanged}
 use Rattle.component_store.proofs.ClearLemmas.{spare_step, pieces_step, joined_step, self_step, record_step, all_gone}
+use Rattle.component_store.proofs.LastLemmas.{under_still, under_behind}
 use Rattle.std.proofs.lemmas.Result.{err_from_is_err_and}
 use Rattle.keep_store.specs.TookLaws.{stays_both}
 use Rattle.component_store.proofs.RefuseLemmas.{later, sum_later, if_later}
@@ -58,7 +59,7 @@ returns-clause-moments g c t =
     let C = string_bytes c.args.target.now.name in
     let left = c.args.left in
     let t4 = t in
-    let t3 = c.drop_unless-2.ensures.kept.tells t4 in
+    let t3 = c.drop_record.ensures.kept.tells t4 in
     let t2 = c.drop_unless.ensures.kept.tells t3 in
     let t1 = c.drop_name-2.ensures.kept.tells t2 in
     let t0 = c.sweep.ensures.kept.tells t1 in
@@ -66,21 +67,21 @@ returns-clause-moments g c t =
     let run1 = pieces_step C left.component left.its_record run0 (c.as_str-2.ensures.value ∙ c.args.target.now.pieces_is) (c.sweep.ensures.moments t1) in
     let run2 = joined_step C left.component left.its_record run1 (c.as_str-3.ensures.value ∙ c.args.target.now.joined_is) (c.drop_name-2.ensures.moments t2) in
     let run3 = self_step C left.component left.its_record run2 (c.as_str-4.ensures.value) (c.drop_unless.ensures.moments t3) in
-    let run4 = record_step C left.component left.its_record run3 (c.as_str-5.ensures.value ∙ c.args.target.now.record_is) (c.drop_unless-2.ensures.moments t4) in
+    let run4 = record_step C left.component left.its_record run3 (c.as_str-5.ensures.value ∙ c.args.target.now.record_is) (c.drop_record.ensures.moments t4) in
     run4
 
 pub returns-clause-gone : goal.returns-clause-gone
 returns-clause-gone g c t =
     let C = string_bytes c.args.target.now.name in
     let left = c.args.left in
-    let t3 = c.drop_unless-2.ensures.kept.tells t in
+    let t3 = c.drop_record.ensures.kept.tells t in
     let t2 = c.drop_unless.ensures.kept.tells t3 in
     let t1 = c.drop_name-2.ensures.kept.tells t2 in
     let t0 = c.sweep.ensures.kept.tells t1 in
-    on_ok_weaker c.drop_unless-2.result
-    (λ gone. all_gone C left.component left.its_record (g.F.Folder.world c.args.folder.now).story.now.live (g.F.Folder.world c.drop_name.new.folder).story.now.live (g.F.Folder.world c.sweep.new.folder).story.now.live (g.F.Folder.world c.drop_name-2.new.folder).story.now.live (g.F.Folder.world c.drop_unless.new.folder).story.now.live (g.F.Folder.world c.drop_unless-2.new.folder).story.now.live (c.as_str.ensures.value ∙ c.args.target.now.spare_is) (c.as_str-2.ensures.value ∙ c.args.target.now.pieces_is) (c.as_str-3.ensures.value ∙ c.args.target.now.joined_is) (c.as_str-4.ensures.value) (c.as_str-5.ensures.value ∙ c.args.target.now.record_is)
+    on_ok_weaker c.drop_record.result
+    (λ gone. all_gone C left.component left.its_record (g.F.Folder.world c.args.folder.now).story.now.live (g.F.Folder.world c.drop_name.new.folder).story.now.live (g.F.Folder.world c.sweep.new.folder).story.now.live (g.F.Folder.world c.drop_name-2.new.folder).story.now.live (g.F.Folder.world c.drop_unless.new.folder).story.now.live (g.F.Folder.world c.drop_record.new.folder).story.now.live (c.as_str.ensures.value ∙ c.args.target.now.spare_is) (c.as_str-2.ensures.value ∙ c.args.target.now.pieces_is) (c.as_str-3.ensures.value ∙ c.args.target.now.joined_is) (c.as_str-4.ensures.value) (c.as_str-5.ensures.value ∙ c.args.target.now.record_is)
     (c.in_ok-drop_name.ensures.gone t0) (c.in_ok-sweep.ensures.gone t1) (c.in_ok-drop_name-2.ensures.gone t2) (c.in_ok-drop_unless.ensures.gone t3) gone)
-    (c.drop_unless-2.ensures.gone t)
+    (c.drop_record.ensures.gone t)
 
 pub returns-in_err-sweep-clause-refused : goal.returns-in_err-sweep-clause-refused
 returns-in_err-sweep-clause-refused g c =
@@ -98,4 +99,67 @@ returns-in_err-drop_unless-clause-refused g c =
     rw (p.1, p.2) (later (stays_both (stays_both c.drop_name.ensures.kept c.sweep.ensures.kept) c.drop_name-2.ensures.kept) c.in_err-drop_unless.ensures.refused)
 
 pub returns-clause-refused : goal.returns-clause-refused
-returns-clause-refused g c = if_later _ c.drop_unless-2.result (stays_both (stays_both (stays_both c.drop_name.ensures.kept c.sweep.ensures.kept) c.drop_name-2.ensures.kept) c.drop_unless.ensures.kept) c.drop_unless-2.ensures.refused
+returns-clause-refused g c = if_later _ c.drop_record.result (stays_both (stays_both (stays_both c.drop_name.ensures.kept c.sweep.ensures.kept) c.drop_name-2.ensures.kept) c.drop_unless.ensures.kept) c.drop_record.ensures.refused
+
+pub returns-in_err-drop_name-clause-last : goal.returns-in_err-drop_name-clause-last
+returns-in_err-drop_name-clause-last g c t always =
+    let C = string_bytes c.args.target.now.name in
+    let left = c.args.left in
+    let t0 = t in
+    let run0 = spare_step C left.component true (unchanged (is_cleared C left.component true) refl) (c.as_str.ensures.value ∙ c.args.target.now.spare_is) (c.drop_name.ensures.moments t0) in
+    under_still C left.component always run0
+
+pub returns-in_err-sweep-clause-last : goal.returns-in_err-sweep-clause-last
+returns-in_err-sweep-clause-last g c t always =
+    let C = string_bytes c.args.target.now.name in
+    let left = c.args.left in
+    let t1 = t in
+    let t0 = c.sweep.ensures.kept.tells t1 in
+    let run0 = spare_step C left.component true (unchanged (is_cleared C left.component true) refl) (c.as_str.ensures.value ∙ c.args.target.now.spare_is) (c.drop_name.ensures.moments t0) in
+    let run1 = pieces_step C left.component true run0 (c.as_str-2.ensures.value ∙ c.args.target.now.pieces_is) (c.sweep.ensures.moments t1) in
+    under_still C left.component always run1
+
+pub returns-in_err-drop_name-2-clause-last : goal.returns-in_err-drop_name-2-clause-last
+returns-in_err-drop_name-2-clause-last g c t always =
+    let C = string_bytes c.args.target.now.name in
+    let left = c.args.left in
+    let t2 = t in
+    let t1 = c.drop_name-2.ensures.kept.tells t2 in
+    let t0 = c.sweep.ensures.kept.tells t1 in
+    let run0 = spare_step C left.component true (unchanged (is_cleared C left.component true) refl) (c.as_str.ensures.value ∙ c.args.target.now.spare_is) (c.drop_name.ensures.moments t0) in
+    let run1 = pieces_step C left.component true run0 (c.as_str-2.ensures.value ∙ c.args.target.now.pieces_is) (c.sweep.ensures.moments t1) in
+    let run2 = joined_step C left.component true run1 (c.as_str-3.ensures.value ∙ c.args.target.now.joined_is) (c.drop_name-2.ensures.moments t2) in
+    under_still C left.component always run2
+
+pub returns-in_err-drop_unless-clause-last : goal.returns-in_err-drop_unless-clause-last
+returns-in_err-drop_unless-clause-last g c t always =
+    let C = string_bytes c.args.target.now.name in
+    let left = c.args.left in
+    let t3 = t in
+    let t2 = c.drop_unless.ensures.kept.tells t3 in
+    let t1 = c.drop_name-2.ensures.kept.tells t2 in
+    let t0 = c.sweep.ensures.kept.tells t1 in
+    let run0 = spare_step C left.component true (unchanged (is_cleared C left.component true) refl) (c.as_str.ensures.value ∙ c.args.target.now.spare_is) (c.drop_name.ensures.moments t0) in
+    let run1 = pieces_step C left.component true run0 (c.as_str-2.ensures.value ∙ c.args.target.now.pieces_is) (c.sweep.ensures.moments t1) in
+    let run2 = joined_step C left.component true run1 (c.as_str-3.ensures.value ∙ c.args.target.now.joined_is) (c.drop_name-2.ensures.moments t2) in
+    let run3 = self_step C left.component true run2 (c.as_str-4.ensures.value) (c.drop_unless.ensures.moments t3) in
+    under_still C left.component always run3
+
+pub returns-clause-last : goal.returns-clause-last
+returns-clause-last g c t always =
+    let C = string_bytes c.args.target.now.name in
+    let left = c.args.left in
+    let t3 = c.drop_record.ensures.kept.tells t in
+    let t2 = c.drop_unless.ensures.kept.tells t3 in
+    let t1 = c.drop_name-2.ensures.kept.tells t2 in
+    let t0 = c.sweep.ensures.kept.tells t1 in
+    let run0 = spare_step C left.component true (unchanged (is_cleared C left.component true) refl) (c.as_str.ensures.value ∙ c.args.target.now.spare_is) (c.drop_name.ensures.moments t0) in
+    let run1 = pieces_step C left.component true run0 (c.as_str-2.ensures.value ∙ c.args.target.now.pieces_is) (c.sweep.ensures.moments t1) in
+    let run2 = joined_step C left.component true run1 (c.as_str-3.ensures.value ∙ c.args.target.now.joined_is) (c.drop_name-2.ensures.moments t2) in
+    let run3 = self_step C left.component true run2 (c.as_str-4.ensures.value) (c.drop_unless.ensures.moments t3) in
+    let live = (g.F.Folder.world c.drop_unless.new.folder).story.now.live in
+    under_behind C left.component _ always run3
+    (all_gone C left.component true (g.F.Folder.world c.args.folder.now).story.now.live (g.F.Folder.world c.drop_name.new.folder).story.now.live (g.F.Folder.world c.sweep.new.folder).story.now.live (g.F.Folder.world c.drop_name-2.new.folder).story.now.live live live
+    (c.as_str.ensures.value ∙ c.args.target.now.spare_is) (c.as_str-2.ensures.value ∙ c.args.target.now.pieces_is) (c.as_str-3.ensures.value ∙ c.args.target.now.joined_is) (c.as_str-4.ensures.value) (c.as_str-5.ensures.value ∙ c.args.target.now.record_is)
+    (c.in_ok-drop_name.ensures.gone t0) (c.in_ok-sweep.ensures.gone t1) (c.in_ok-drop_name-2.ensures.gone t2) (c.in_ok-drop_unless.ensures.gone t3) (λ n. refl))
+    (c.drop_record.ensures.behind t)

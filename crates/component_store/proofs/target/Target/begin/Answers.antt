@@ -9,9 +9,10 @@ use Rattle.folder_steps.proofs.ImageLemmas.{ends}
 use Rattle.plan_record.specs.Names.{spare_of}
 use Rattle.component_store.specs.Begin.{goes_on, begun_as, begun_names, InAll}
 use Rattle.component_store.specs.declared.begun.Begun.{Begun}
-use Rattle.component_store.proofs.FamilyLemmas.{spare_self}
+use Rattle.component_store.proofs.FamilyLemmas.{spare_self, spare_record}
 use Rattle.component_store.proofs.SoundLemmas.{thin_sound, starting_sound}
 use Rattle.component_store.proofs.BeginLemmas.{beginning_anew, starting_after, started_names, goes_on_all, goes_by_record, anew_in_all, ok_anyway}
+use Rattle.component_store.proofs.LastLemmas.{under_thin}
 use Rattle.std.proofs.lemmas.Result.{err_from_is_err_and}
 use Rattle.component_store.proofs.RefuseLemmas.{sum_later, if_later}
 use Rattle.component_store.proofs.target.Target.begin.Goals as goal
@@ -117,3 +118,25 @@ returns-in_err-start-clause-refused g c =
 
 pub returns-then-goes-clause-refused : goal.returns-then-goes-clause-refused
 returns-then-goes-clause-refused g c = if_later _ c.as_it_stands.result (c.goes_on.ensures.kept) c.as_it_stands.ensures.refused
+
+pub returns-in_err-goes-clause-last : goal.returns-in_err-goes-clause-last
+returns-in_err-goes-clause-last g c t always =
+    let C = string_bytes c.args.self.now.name in
+    weaker (c.goes_on.ensures.moments t) (λ image h. under_thin C c.args.self.now.is_final (bytes_eq (spare_of C)) (spare_record C) always image h)
+
+pub returns-then-goes-clause-last : goal.returns-then-goes-clause-last
+returns-then-goes-clause-last g c t always =
+    let C = string_bytes c.args.self.now.name in
+    weaker (stays (c.goes_on.ensures.moments (c.as_it_stands.ensures.kept.tells t)) (c.as_it_stands.ensures.same t)) (λ image h. under_thin C c.args.self.now.is_final (bytes_eq (spare_of C)) (spare_record C) always image h)
+
+pub returns-in_err-start-clause-last : goal.returns-in_err-start-clause-last
+returns-in_err-start-clause-last g c t always =
+    let C = string_bytes c.args.self.now.name in
+    let first = weaker (c.goes_on.ensures.moments (c.start.ensures.kept.tells t)) (λ image h. under_thin C c.args.self.now.is_final (bytes_eq (spare_of C)) (spare_record C) always image h) in
+    joined first (c.start.ensures.last t (ends first))
+
+pub returns-clause-last : goal.returns-clause-last
+returns-clause-last g c t always =
+    let C = string_bytes c.args.self.now.name in
+    let first = weaker (c.goes_on.ensures.moments (c.start.ensures.kept.tells t)) (λ image h. under_thin C c.args.self.now.is_final (bytes_eq (spare_of C)) (spare_record C) always image h) in
+    joined first (c.start.ensures.last t (ends first))

@@ -10,6 +10,7 @@ use Rattle.plan_record.specs.Names.{record_of}
 use Rattle.component_store.specs.Tidy.{is_tidied, is_cleared}
 use Rattle.component_store.proofs.SoundLemmas.{thin_sound}
 use Rattle.component_store.proofs.TidyLemmas.{none_names, cleared_names, cleared_thin, thin_from}
+use Rattle.component_store.proofs.LastLemmas.{under_same, under_from}
 use Rattle.std.proofs.lemmas.Result.{err_from_is_err_and}
 use Rattle.keep_store.specs.TookLaws.{stays_both}
 use Rattle.component_store.proofs.RefuseLemmas.{later, if_sum_later}
@@ -89,3 +90,19 @@ returns-in_err-its_record-clause-refused g c =
 
 pub returns-clause-refused : goal.returns-clause-refused
 returns-clause-refused g c = if_sum_later _ c.clear.result (stays_both c.is_there.ensures.looked.stays c.keeps_record.ensures.looked.stays) c.clear.ensures.refused
+
+pub returns-in_err-recorded-clause-last : goal.returns-in_err-recorded-clause-last
+returns-in_err-recorded-clause-last g c t always = under_same (string_bytes c.args.self.now.name) (c.args.self.now.is_final || c.args.keep) (c.is_there.ensures.looked.same t) always
+
+pub returns-then-not-recorded-clause-last : goal.returns-then-not-recorded-clause-last
+returns-then-not-recorded-clause-last g c t always = under_same (string_bytes c.args.self.now.name) (c.args.self.now.is_final || c.args.keep) (c.is_there.ensures.looked.same t) always
+
+pub returns-in_err-its_record-clause-last : goal.returns-in_err-its_record-clause-last
+returns-in_err-its_record-clause-last g c t always =
+    under_same (string_bytes c.args.self.now.name) (c.args.self.now.is_final || c.args.keep) (c.keeps_record.ensures.looked.same t ∙ c.is_there.ensures.looked.same (c.keeps_record.ensures.looked.stays.tells t)) always
+
+pub returns-clause-last : goal.returns-clause-last
+returns-clause-last g c t =
+    let t2 = c.clear.ensures.kept.tells t in
+    let same1 = c.is_there.ensures.looked.same (c.keeps_record.ensures.looked.stays.tells t2) in
+    under_from (string_bytes c.args.self.now.name) c.component_stays.ensures (c.keeps_record.ensures.looked.same t2 ∙ same1) (c.clear.ensures.last t)
