@@ -7,3 +7,5 @@ mod choices;
 mod patterns;
 #[cfg(test)]
 mod selectors;
+#[cfg(test)]
+mod special_names;
