@@ -122,7 +122,7 @@ const FAULTS: [Row; 6] = [
         ],
         ONE,
         "",
-        "ERROR: word 5: not built\n",
+        "ERROR: word 7: not built\n",
         2,
     ),
     (&NAME, "", "", "ERROR: info: bad JSON at byte 0\n", 1),

@@ -1,9 +1,11 @@
 use fmt_sort::{SortFault, SortKey};
+use sel_lang::{Media, Pick, Sel, SelFault};
 use std::alloc::Global;
 use std::process::Abort;
 use std::test::Fail;
 use text_base::{OutOfMemory, Text};
-use ytdl_core::{OptionFault, Options, Pick, WordsFault, read_words};
+use tpl_lang::TplFault;
+use word_list::{OptionFault, Options, WordsFault, read_words};
 
 const INFO: &str = "--load-info-json";
 
@@ -18,55 +20,99 @@ pub fn texts(alloc: Global, words: &[&str]) -> Result<Vec<Text>, OutOfMemory> {
 /// Words that are refused, the place of the one at fault, and its fault.
 type Refused = (&'static [&'static str], usize, OptionFault);
 
-const FORMS: [Refused; 21] = [
+/// Words whose form is at fault.
+const FORMS: [Refused; 22] = [
     (&[], 0, OptionFault::NoInfo),
     (&[INFO], 0, OptionFault::NeedsValue),
     (&["-s", "-f"], 1, OptionFault::NeedsValue),
+    (&["--exec"], 0, OptionFault::NeedsValue),
     (&["--simulat"], 0, OptionFault::Unknown),
     (&["--simulates"], 0, OptionFault::Unknown),
     (&["-s", "-Z"], 1, OptionFault::Unknown),
     (&["-é"], 0, OptionFault::Unknown),
     (&["-sq"], 0, OptionFault::Unknown),
+    (&["-xyz"], 0, OptionFault::Unknown),
     (&["-s=1"], 0, OptionFault::Unknown),
     (&["--=x"], 0, OptionFault::Unknown),
     (&["--skip-unavailable-fragments"], 0, OptionFault::Unknown),
     (&["--simulate=yes"], 0, OptionFault::TakesNone),
     (&["--no-quiet="], 0, OptionFault::TakesNone),
+    (&["--restrict-filenames=1"], 0, OptionFault::TakesNone),
     (&["-"], 0, OptionFault::Extra),
     (&[""], 0, OptionFault::Extra),
     (&["a", "--bad"], 0, OptionFault::Extra),
     (&["--", "-s"], 1, OptionFault::Extra),
     (&["--"], 1, OptionFault::NoInfo),
+    (&["-s"], 1, OptionFault::NoInfo),
+];
+
+/// Values that are empty, out of their bounds, or not named.
+const VALUES: [Refused; 24] = [
     (&["-s", INFO, ""], 1, OptionFault::BadValue),
     (&["--load-info-json="], 0, OptionFault::BadValue),
+    (&["-f22x", INFO, ""], 1, OptionFault::BadValue),
     (&[INFO, "i", "-f", ""], 2, OptionFault::BadValue),
-];
-
-/// A run that is not simulated is not built either.
-const UNBUILT: [Refused; 12] = [
-    (&[INFO, "i", "-f", "bestvideo"], 2, OptionFault::NotBuilt),
-    (&["-f22x", INFO, ""], 0, OptionFault::NotBuilt),
-    (&[INFO, "i", "--print", "title"], 2, OptionFault::NotBuilt),
-    (&[INFO, "i", "--print="], 2, OptionFault::NotBuilt),
-    (&["-xyz"], 0, OptionFault::NotBuilt),
-    (&["--exec"], 0, OptionFault::NotBuilt),
-    (&["--restrict-filenames=1"], 0, OptionFault::NotBuilt),
-    (&["-s"], 1, OptionFault::NoInfo),
-    (&[INFO, "i"], 2, OptionFault::NotBuilt),
-    (&[INFO, "--print"], 2, OptionFault::NotBuilt),
+    (&["-S", "", "-Z"], 0, OptionFault::BadValue),
+    (&["--selftest", "0"], 0, OptionFault::BadValue),
+    (&["--selftest=10001"], 0, OptionFault::BadValue),
+    (&["--selftest", "007"], 0, OptionFault::BadValue),
+    (&["-N0"], 0, OptionFault::BadValue),
+    (&["-N", "33"], 0, OptionFault::BadValue),
+    (&["-R", "1001"], 0, OptionFault::BadValue),
+    (&["-R", "+1"], 0, OptionFault::BadValue),
+    (&["--fragment-retries", ""], 0, OptionFault::BadValue),
+    (&["--trim-filenames", "4097"], 0, OptionFault::BadValue),
     (
-        &[INFO, "i", "-s", "--no-simulate"],
-        4,
-        OptionFault::NotBuilt,
+        &["--autonumber-start", "1000000000000001"],
+        0,
+        OptionFault::BadValue,
     ),
     (
-        &[INFO, "i", "--no-simulate", "--print", "filename"],
-        5,
-        OptionFault::NotBuilt,
+        &["--autonumber-start", "18446744073709551617"],
+        0,
+        OptionFault::BadValue,
     ),
+    (
+        &["--merge-output-format", "mkv/m4a"],
+        0,
+        OptionFault::BadValue,
+    ),
+    (&["--remux-video", "mp4/best"], 0, OptionFault::BadValue),
+    (&["--remux-video", "a>b>mkv"], 0, OptionFault::BadValue),
+    (&["--audio-format", "mkv"], 0, OptionFault::BadValue),
+    (&["--audio-format", "aac/"], 0, OptionFault::BadValue),
+    (&["--exec", ""], 0, OptionFault::BadValue),
+    (&["--ffmpeg-location", ""], 0, OptionFault::BadValue),
+    (&["--download-archive", "a/../b"], 0, OptionFault::BadValue),
 ];
 
-const SORTS: [Refused; 7] = [
+/// Selectors, templates and sort words that their readers refuse.
+const LANGUAGES: [Refused; 8] = [
+    (
+        &["-f", "a,,b"],
+        0,
+        OptionFault::Selector(SelFault::Syntax { at: 2 }),
+    ),
+    (
+        &["--selftest", "1", "-f", "b[quality>1]"],
+        2,
+        OptionFault::Selector(SelFault::Field { at: 2 }),
+    ),
+    (
+        &["-o", "%(id)L"],
+        0,
+        OptionFault::Template(TplFault::TypeLetter { at: 5 }),
+    ),
+    (
+        &["--print", "%(id"],
+        0,
+        OptionFault::Template(TplFault::Syntax { at: 4 }),
+    ),
+    (
+        &["-s", "--exec", "%(id>%Q)s"],
+        1,
+        OptionFault::Template(TplFault::Directive { at: 5 }),
+    ),
     (
         &["-Sfoo"],
         0,
@@ -82,10 +128,6 @@ const SORTS: [Refused; 7] = [
         1,
         OptionFault::Sort(SortFault::Limit { piece: 1 }),
     ),
-    (&["-S", "", "-Z"], 0, OptionFault::BadValue),
-    (&["-Z", "-S", "foo"], 0, OptionFault::Unknown),
-    (&["--S-force=1"], 0, OptionFault::TakesNone),
-    (&["-S", "res"], 2, OptionFault::NoInfo),
 ];
 
 /// The words of each row are refused.
@@ -108,97 +150,164 @@ fn are_refused(rt: &(impl Abort + AllocGlobal), rows: &[Refused]) -> Result<(), 
 #[test]
 fn words_are_refused(rt: HostRuntime) -> Result<(), Fail> {
     are_refused(&rt, &FORMS)?;
-    are_refused(&rt, &UNBUILT)?;
-    are_refused(&rt, &SORTS)
+    are_refused(&rt, &VALUES)?;
+    are_refused(&rt, &LANGUAGES)
 }
 
-/// The name of the format that is chosen.
-fn named(options: &Options) -> &str {
-    match &options.selection.pick {
-        Some(Pick::Id(id)) => id.as_str(),
-        Some(Pick::Best) => "best",
-        Some(Pick::Worst) => "worst",
-        None => "",
+/// The options of words, which are accepted.
+fn asked(alloc: Global, words: &[&str]) -> Result<Options, Fail> {
+    Ok(read_words(alloc, &texts(alloc, words)?)?)
+}
+
+/// Every option that tests/cli does not show, at the edge of what it takes.
+const ACCEPTED: [&[&str]; 3] = [
+    &["--selftest=10000", "--print", "", "-o", ""],
+    &[
+        INFO,
+        "i",
+        "--autonumber-start",
+        "1000000000000000",
+        "--trim-filenames",
+        "4096",
+        "--extract-audio",
+        "--keep-video",
+        "--continue",
+        "--remux-video",
+        ">mp4/aac>m4a/wav",
+        "--audio-format",
+        "best/aac/alac",
+    ],
+    &[
+        INFO,
+        "i",
+        "--exec",
+        "%%",
+        "--download-archive",
+        "a/b",
+        "--output",
+        "%(id)s",
+        "--retries",
+        "0",
+        "--concurrent-fragments=1",
+    ],
+];
+
+#[test]
+fn options_take_their_values(rt: HostRuntime) -> Result<(), Fail> {
+    for words in &ACCEPTED {
+        asked(rt.alloc(), words)?;
     }
+    Ok(())
 }
 
-const PRINT: &str = "--print=filename";
-
-/// Words, the file and the format that they ask for, how many prints, and whether the run is quiet.
-const ASKED: [(&[&str], &str, &str, usize, bool); 10] = [
-    (&[INFO, "i", "--print", "filename"], "i", "", 1, true),
-    (&["--load-info-json=a=b", "-s"], "a=b", "", 0, false),
-    (&[INFO, "--print", "--simulate"], "--print", "", 0, false),
-    (&[INFO, "--", "-s", "--"], "--", "", 0, false),
-    (&[PRINT, PRINT, INFO, "i", "--no-quiet"], "i", "", 2, false),
+/// Words, the file that they name, how many prints they ask for, whether the run is simulated, and whether it is quiet.
+const SHOWN: [(&[&str], &str, usize, bool, bool); 8] = [
+    (&["--load-info-json=a=b", "-s"], "a=b", 0, true, false),
+    (&[INFO, "--print", "-s"], "--print", 0, true, false),
+    (&[INFO, "--", "-s", "--"], "--", 0, true, false),
+    (&[INFO, "a", INFO, "b", "-q"], "b", 0, false, true),
     (
-        &["-f", "22", INFO, "a", INFO, "b", "-s", "-f137"],
-        "b",
-        "137",
-        0,
-        false,
-    ),
-    (&[INFO, "i", "--no-simulate", "-s"], "i", "", 0, false),
-    (&[INFO, "i", "-s", "--no-quiet", "-q"], "i", "", 0, true),
-    (
-        &[INFO, "i", "-s", "-q", "--no-quiet", PRINT],
+        &["--print=id", "--print=", INFO, "i", "--no-quiet"],
         "i",
-        "",
-        1,
-        false,
-    ),
-    (
-        &[PRINT, "--no-simulate", INFO, "i", "--simulate"],
-        "i",
-        "",
-        1,
+        2,
         true,
+        false,
+    ),
+    (&[INFO, "i", "-s", "--no-quiet", "-q"], "i", 0, true, true),
+    (
+        &["--print", "id", INFO, "i", "-s", "--no-simulate"],
+        "i",
+        1,
+        false,
+        true,
+    ),
+    (
+        &[INFO, "i", "--no-simulate", "-s", "-q", "--no-quiet"],
+        "i",
+        0,
+        true,
+        false,
     ),
 ];
 
 #[test]
 fn of_repeated_words_the_last_stands(rt: HostRuntime) -> Result<(), Fail> {
-    for (words, file, format, prints, quiet) in &ASKED {
-        let options = read_words(rt.alloc(), &texts(rt.alloc(), words)?)?;
-        assert_eq!(rt; options.info.as_str(), *file, "{words:?}");
-        assert_eq!(rt; named(&options), *format, "{words:?}");
+    for (words, file, prints, simulate, quiet) in &SHOWN {
+        let options = asked(rt.alloc(), words)?;
+        let info = options.info.as_ref().map(|name| name.as_str());
+        assert_eq!(rt; info, Some(*file), "{words:?}");
+        assert_eq!(rt; options.plan.prints.len(), *prints, "{words:?}");
         assert_eq!(rt;
-            (options.prints, options.quiet),
-            (*prints, *quiet),
+            (options.simulate, options.quiet),
+            (*simulate, *quiet),
             "{words:?}"
         );
-        assert!(rt; options.simulate);
     }
     Ok(())
 }
 
-/// Words, the format that they ask for, whether free ones go first, and a place of their order with its field.
-const ORDERS: [(&[&str], &str, bool, usize, SortKey); 4] = [
+#[test]
+fn the_self_test_has_options_of_its_own(rt: HostRuntime) -> Result<(), Fail> {
+    let words = [INFO, "i", "--selftest", "7", "-N", "9", "-s", "-R1"];
+    let options = asked(rt.alloc(), &words)?;
+    assert_eq!(rt; options.selftest, Some(7));
+    assert!(rt; options.info.is_none());
+    assert_eq!(rt; (options.simulate, options.quiet), (false, true));
+    assert_eq!(rt; (options.workers, options.retries), (4, 10));
+    Ok(())
+}
+
+/// Whether a selector begins with audio alone.
+fn wants_audio(sel: &Sel) -> bool {
+    match sel {
+        Sel::First(choices) => matches!(
+            choices.first(),
+            Some(Sel::Name(Pick::Ranked {
+                media: Media::Audio,
+                ..
+            }))
+        ),
+        _ => false,
+    }
+}
+
+/// Words, whether audio alone is chosen, and how many commands stand at their end.
+const MADE: [(&[&str], bool, usize); 3] = [
+    (&[INFO, "i", "-x", "--exec", "a", "--exec", "b"], true, 2),
+    (&[INFO, "i", "-x", "-k"], false, 0),
     (
-        &[INFO, "i", "-s", "-S", "res:720,fps", "-S", "br"],
-        "",
+        &[INFO, "i", "--exec", "a", "--no-exec", "--exec", "b"],
+        false,
+        1,
+    ),
+];
+
+#[test]
+fn audio_alone_is_chosen_where_nothing_else_is_kept(rt: HostRuntime) -> Result<(), Fail> {
+    for (words, audio, commands) in &MADE {
+        let plan = asked(rt.alloc(), words)?.plan;
+        assert_eq!(rt; wants_audio(&plan.sel), *audio, "{words:?}");
+        assert_eq!(rt; plan.exec.len(), *commands, "{words:?}");
+    }
+    Ok(())
+}
+
+/// Words, whether free formats go first, and a place of their order with its field.
+const ORDERS: [(&[&str], bool, usize, SortKey); 4] = [
+    (
+        &[INFO, "i", "-S", "res:720,fps", "-S", "br"],
         false,
         2,
         SortKey::Bitrate,
     ),
     (
-        &[INFO, "i", "-s", "-S", "res:720,fps", "-S", "br"],
-        "",
+        &[INFO, "i", "-S", "res:720,fps", "-S", "br"],
         false,
         3,
         SortKey::Resolution,
     ),
     (
-        &[
-            INFO,
-            "i",
-            "-s",
-            "-Sbr",
-            "--S-force",
-            "--prefer-free-formats",
-            "-fworst",
-        ],
-        "worst",
+        &[INFO, "i", "-Sbr", "--S-force", "--prefer-free-formats"],
         true,
         0,
         SortKey::Bitrate,
@@ -207,15 +316,12 @@ const ORDERS: [(&[&str], &str, bool, usize, SortKey); 4] = [
         &[
             INFO,
             "i",
-            "-s",
             "-Sbr",
             "--S-force",
             "--no-format-sort-force",
             "--prefer-free-formats",
             "--no-prefer-free-formats",
-            "-fb",
         ],
-        "best",
         false,
         0,
         SortKey::HasVideo,
@@ -224,10 +330,8 @@ const ORDERS: [(&[&str], &str, bool, usize, SortKey); 4] = [
 
 #[test]
 fn sort_words_set_an_order(rt: HostRuntime) -> Result<(), Fail> {
-    for (words, format, free, place, field) in &ORDERS {
-        let options = read_words(rt.alloc(), &texts(rt.alloc(), words)?)?;
-        let sort = &options.selection.sort;
-        assert_eq!(rt; named(&options), *format, "{words:?}");
+    for (words, free, place, field) in &ORDERS {
+        let sort = asked(rt.alloc(), words)?.plan.sort;
         assert_eq!(rt; sort.free, *free, "{words:?}");
         let key = sort.fields.get(*place).map(|field| field.key);
         assert_eq!(rt; key, Some(*field), "{words:?}");

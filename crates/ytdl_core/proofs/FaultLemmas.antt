@@ -1,6 +1,6 @@
 -- Faults of sinks over several calls.
 use Rattle.std.proofs.Common.{◌≡◌, ◌∙◌, ℕ, ◌≤◌, Bool, true, arith}
-use Rattle.std.specs.Prelude.{Result, Ok, Err, IsErrOf}
+use Rattle.std.specs.Prelude.{Result}
 use Rattle.text_base.specs.Causes.{Rose}
 use Rattle.ytdl_core.specs.declared.run_fault.Which.{Which}
 use Rattle.ytdl_core.specs.declared.run_fault.RunFault.{RunFault}

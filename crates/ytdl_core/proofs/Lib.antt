@@ -1,7 +1,7 @@
 pub mod BestLemmas
+pub mod ChooserLemmas
 pub mod EntryLemmas
 pub mod FaultLemmas
-pub mod FormLemmas
 pub mod InfoLemmas
 pub mod LimitLemmas
 pub mod MemoryLemmas
@@ -10,8 +10,5 @@ pub mod PickLemmas
 pub mod ReadingLemmas
 pub mod RunLemmas
 pub mod ScriptLemmas
-pub mod SortLemmas
 pub mod StemLemmas
-pub mod TableLemmas
 pub mod ToldLemmas
-pub mod WordsLemmas

@@ -3,10 +3,10 @@ use Rattle.std.proofs.Common.{◌≡◌, ◌⊎◌, ℕ, List, [], take, drop, r
 use Rattle.std.specs.Prelude.{Option, Some, None, IfSome, Result, Ok, Err}
 use Rattle.ytdl_core.specs.declared.entry.Entry.{Entry}
 use Rattle.ytdl_core.specs.declared.report.Report.{Report}
-use Rattle.ytdl_core.specs.Settings.{Options}
-use Rattle.ytdl_core.specs.declared.run_fault.OptionFault.{OptionFault}
-use Rattle.ytdl_core.specs.declared.words_fault.WordsFault.{WordsFault}
-use Rattle.ytdl_core.specs.declared.words_fault.WordsFault.TheVariants.{Bad, OutOfMemory as NoMemory}
+use Rattle.ytdl_core.specs.Built.{Command}
+use Rattle.word_list.specs.declared.fault.OptionFault.{OptionFault}
+use Rattle.word_list.specs.declared.fault.WordsFault.{WordsFault}
+use Rattle.word_list.specs.declared.fault.WordsFault.TheVariants.{Bad, OutOfMemory as NoMemory}
 use Rattle.ytdl_core.specs.declared.run_fault.InfoFault.{InfoFault}
 use Rattle.ytdl_core.specs.declared.run_fault.RunFault.{RunFault}
 use Rattle.ytdl_core.specs.declared.run_fault.RunFault.TheVariants.{Options as Words, Info, InfoRead, Write, OutOfMemory}
@@ -28,7 +28,7 @@ pub blamed_word : {I O : Type 0} (words : List (List ℕ)) (info : I) (out : O) 
     words_of words ≡ Err (Bad word fault) → IsOfWords {T = Report} words info info out out (Err (Words word fault))
 blamed_word words info out word fault is = record {
   blamed = λ place other e. let same : (◌≡◌ {A = RunFault} (Words word fault) (Words place other)) = cc e in cc;
-  answered = λ place other e. let same : (◌≡◌ {A = Result Options WordsFault} (Err (Bad word fault)) (Err (Bad place other))) = sym is ∙ e in inl (cc same);
+  answered = λ place other e. let same : (◌≡◌ {A = Result Command WordsFault} (Err (Bad word fault)) (Err (Bad place other))) = sym is ∙ e in inl (cc same);
   untouched = λ place other e. (refl, refl);
 }
 
@@ -71,10 +71,10 @@ no_word_of_sink (Write which) is = tt
 no_word_of_sink OutOfMemory is = tt
 
 -- words that ask for options have no fault
-not_both : (words : List (List ℕ)) (options : Options) (fault : WordsFault) → Asks words options → words_of words ≡ Err fault → ⊥
-not_both words options fault asks is = let same : (◌≡◌ {A = Result Options WordsFault} (Ok options) (Err fault)) = sym asks ∙ is in cc same
+not_both : (words : List (List ℕ)) (options : Command) (fault : WordsFault) → Asks words options → words_of words ≡ Err fault → ⊥
+not_both words options fault asks is = let same : (◌≡◌ {A = Result Command WordsFault} (Ok options) (Err fault)) = sym asks ∙ is in cc same
 
-pub asked_err : {I O : Type 0} {info info_now : I} {out out_now : O} (words : List (List ℕ)) (options : Options) (f : RunFault) →
+pub asked_err : {I O : Type 0} {info info_now : I} {out out_now : O} (words : List (List ℕ)) (options : Command) (f : RunFault) →
     Asks words options → BlamesNoWord f → IsOfWords {T = Report} words info info_now out out_now (Err f)
 asked_err words options f asks none = record {
   blamed = λ place other e. let same : f ≡ Words place other = cc e in absurd (subst BlamesNoWord same none);
@@ -82,7 +82,7 @@ asked_err words options f asks none = record {
   untouched = λ place other e. let same : f ≡ Words place other = cc e in absurd (subst BlamesNoWord same none);
 }
 
-pub asked_ok : {I O : Type 0} {info info_now : I} {out out_now : O} (words : List (List ℕ)) (options : Options) (report : Report) →
+pub asked_ok : {I O : Type 0} {info info_now : I} {out out_now : O} (words : List (List ℕ)) (options : Command) (report : Report) →
     Asks words options → IsOfWords words info info_now out out_now (Ok report)
 asked_ok words options report asks = record {
   blamed = λ place other e. cc e;
@@ -111,7 +111,7 @@ exact_memory words told = record {
 }
 
 -- What holds of the bytes that were read holds of the file that the source tells.
-module _ (words : List (List ℕ)) (told : Option File) (options : Options) (bytes : List ℕ) (left : Option (List ℕ)) (asks : Asks words options)
+module _ (words : List (List ℕ)) (told : Option File) (options : Command) (bytes : List ℕ) (left : Option (List ℕ)) (asks : Asks words options)
     (named : IfSome told (λ file. file.name ≡ options.info))
     (read : IfSome told (λ file. (bytes ≡ take 67108865 file.bytes) × (left ≡ Some (drop 67108865 file.bytes)))) where
   of_file : (AreSo : List ℕ → Type 0) → ((b : List ℕ) → AreSo (take 67108865 b) → AreSo b) → AreSo bytes → OfFile options told AreSo

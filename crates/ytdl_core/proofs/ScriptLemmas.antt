@@ -1,14 +1,14 @@
 -- Scripts as lists: pieces one behind another, and what their bytes do to two sinks.
-use Rattle.std.proofs.Common.{◌≡◌, ℕ, zero, suc, get_or, ◌+◌, ◌<◌, ◌≤◌, List, [], ◌∷◌, ◌++◌, length, take, drop, refl, sym, ◌∙◌, ap, arith, append_assoc, map, min, length-append, length-take}
-use Rattle.std.specs.Prelude.{Option, Some, None, Bool, true, false, if◌then◌else◌}
+use Rattle.std.proofs.Common.{◌≡◌, ℕ, zero, suc, get_or, ◌+◌, ◌<◌, List, [], ◌∷◌, ◌++◌, length, take, drop, refl, sym, ◌∙◌, ap, arith, append_assoc, min}
+use Rattle.std.specs.Prelude.{Option, Some, None}
 use Rattle.std.specs.String.{string_bytes}
 use Rattle.std.specs.Io.KnownBytes.{Appends}
-use Rattle.std.proofs.lemmas.List.{append-nil, take-append-le, take-append-drop, take_all, take_min, take_more}
+use Rattle.std.proofs.lemmas.List.{append-nil, take-append-le, take-append-drop, take_min, take_more}
 use Rattle.std.proofs.Math.Seq.{take-append-add}
 use Rattle.ytdl_core.specs.declared.lines.Piece.{Piece}
 use Rattle.ytdl_core.specs.declared.run_fault.Which.{Which}
 use Rattle.ytdl_core.specs.declared.run_fault.Which.TheVariants as which
-use Rattle.ytdl_core.specs.Lines.{Script, all_to, out_bytes, err_bytes, Sends, SendsSome, is_out}
+use Rattle.ytdl_core.specs.Lines.{Script, all_to, out_bytes, err_bytes, Sends, SendsSome}
 use Rattle.ytdl_core.specs.Pieces.{script_of}
 use Rattle.ytdl_core.specs.Outside.{AppendsFront}
 

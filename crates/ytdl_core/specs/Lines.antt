@@ -8,13 +8,13 @@ use Rattle.info_item.specs.declared.item_fault.ItemFault.{ItemFault}
 use Rattle.info_item.specs.declared.item_fault.ItemFault.TheVariants as item
 use Rattle.ytdl_core.specs.declared.run_fault.Which.{Which}
 use Rattle.ytdl_core.specs.declared.run_fault.Which.TheVariants.{Out, Err}
-use Rattle.ytdl_core.specs.declared.run_fault.OptionFault.{OptionFault}
-use Rattle.ytdl_core.specs.declared.run_fault.OptionFault.TheVariants as option
+use Rattle.word_list.specs.declared.fault.OptionFault.{OptionFault}
+use Rattle.word_list.specs.declared.fault.OptionFault.TheVariants as option
 use Rattle.ytdl_core.specs.declared.run_fault.InfoFault.{InfoFault}
 use Rattle.ytdl_core.specs.declared.run_fault.InfoFault.TheVariants.{Tree, Item}
 use Rattle.ytdl_core.specs.declared.run_fault.RunFault.{RunFault}
 use Rattle.ytdl_core.specs.declared.run_fault.RunFault.TheVariants.{Options as Words, Info, InfoRead, Write, OutOfMemory}
-use Rattle.ytdl_core.specs.Settings.{Options}
+use Rattle.ytdl_core.specs.Built.{Command}
 use Rattle.ytdl_core.specs.Outside.{AppendsFront}
 use Rattle.ytdl_core.specs.declared.entry.Entry.{Entry}
 use Rattle.ytdl_core.specs.declared.entry.Entry.TheVariants as entry
@@ -62,17 +62,17 @@ repeated zero line = []
 repeated (suc count) line = repeated count line ++ line
 
 -- what a name is printed as: by itself for each print, and as simulated where the run is not quiet
-abbrev pub name_lines : Options → List ℕ → List ℕ
+abbrev pub name_lines : Command → List ℕ → List ℕ
 name_lines options line = repeated options.prints line ++ (if options.quiet then [] else codes "[simulate] " ++ line)
 
 -- the lines of an entry, by its item's number
-abbrev pub line_of : Options → ℕ → Entry → Script
+abbrev pub line_of : Command → ℕ → Entry → Script
 line_of options number (entry.Shown stem extension) = all_to Out (name_lines options (name_line stem extension))
 line_of options number entry.NoFormat = all_to Err (codes "ERROR: item " ++ decimal number ++ codes ": requested format is not available\n")
 line_of options number entry.NotBuilt = all_to Err (codes "ERROR: item " ++ decimal number ++ codes ": not built\n")
 
 -- the lines of entries, the first of which is that of the item with this number
-abbrev pub lines_of : Options → ℕ → List Entry → Script
+abbrev pub lines_of : Command → ℕ → List Entry → Script
 lines_of options number [] = []
 lines_of options number (first ∷ rest) = line_of options number first ++ lines_of options (number + 1) rest
 
@@ -103,7 +103,9 @@ abbrev pub option_text : OptionFault → List ℕ
 option_text option.Unknown = codes "unknown option"
 option_text option.NeedsValue = codes "value missing"
 option_text option.BadValue = codes "bad value"
+option_text (option.Selector fault) = codes "bad selector"
 option_text (option.Sort fault) = codes "bad sort field"
+option_text (option.Template fault) = codes "bad template"
 option_text option.NoInfo = codes "no --load-info-json"
 option_text option.Extra = codes "unexpected word"
 option_text option.TakesNone = codes "takes no value"

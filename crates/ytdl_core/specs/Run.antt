@@ -16,9 +16,9 @@ use Rattle.ytdl_core.specs.declared.run_fault.RunFault.TheVariants.{Options as W
 use Rattle.ytdl_core.specs.declared.report.Report.{Report}
 use Rattle.ytdl_core.specs.Outside.{File, AppendsFront}
 use Rattle.ytdl_core.specs.Selection.{Selection}
-use Rattle.ytdl_core.specs.Settings.{Options}
-use Rattle.ytdl_core.specs.declared.run_fault.OptionFault.{OptionFault}
-use Rattle.ytdl_core.specs.declared.words_fault.WordsFault.TheVariants.{Bad}
+use Rattle.ytdl_core.specs.Built.{Command}
+use Rattle.word_list.specs.declared.fault.OptionFault.{OptionFault}
+use Rattle.word_list.specs.declared.fault.WordsFault.TheVariants.{Bad}
 use Rattle.ytdl_core.specs.Words.{Asks, words_of}
 use Rattle.ytdl_core.specs.declared.entry.Entry.{Entry}
 use Rattle.ytdl_core.specs.Entry.{entries_of}
@@ -43,12 +43,12 @@ HaveFault bytes (Tree fault) = Has bytes fault × (fault ≢ tree.OutOfMemory)
 HaveFault bytes (Item fault) = HaveItemFault bytes fault
 
 -- where the source tells its file, that is the file that the options name, and its bytes are so
-abbrev pub OfFile : Options → Option File → (List ℕ → Type 0) → Type 0
+abbrev pub OfFile : Command → Option File → (List ℕ → Type 0) → Type 0
 OfFile options told AreSo = IfSome told (λ file. (file.name ≡ options.info) × AreSo file.bytes)
 
 -- The file that the words name has this fault, where the source tells it.
 pub record OfFaultyFile (words : List (List ℕ)) (told : Option File) (fault : InfoFault) : Type 0 where
-  pub options : Options
+  pub options : Command
   pub asks : Asks words options
   pub file : OfFile options told (λ bytes. HaveFault bytes fault)
 
@@ -68,7 +68,7 @@ pub record IsOfWords {T I O : Type 0} (words : List (List ℕ)) (info info_now :
 
 -- A report has an end for each entry, in order, and every line was written.
 pub record IsReported (words : List (List ℕ)) (told : Option File) (out out_now err err_now : Option (List ℕ)) (report : Report) : Type 0 where
-  pub options : Options
+  pub options : Command
   pub asks : Asks words options
   pub entries : List Entry
   pub are_entries : OfFile options told (HaveEntries entries options.selection)
@@ -96,14 +96,14 @@ IsOfItems (Err OutOfMemory) = Unit {0}
 -- A fault that is answered is that of the file, and one that the file has is answered, unless the read failed or memory ran out.
 pub record IsExact (words : List (List ℕ)) (told : Option File) (result : Result Report RunFault) : Type 0 where
   pub info : (fault : InfoFault) → result ≡ Err (Info fault) → OfFaultyFile words told fault
-  pub faults : (options : Options) → Asks words options →
+  pub faults : (options : Command) → Asks words options →
       IfSome told (λ file. (fault : InfoFault) → HaveFault file.bytes fault → IsOfFault fault result)
-  pub items : (options : Options) → Asks words options →
+  pub items : (options : Command) → Asks words options →
       IfSome told (λ file. (items : List PlainItem) → HaveItems file.bytes items → IsOfItems result)
 
 -- What was written is a front of the lines of the entries, in their order.
 pub record SendsFront (words : List (List ℕ)) (told : Option File) (out out_now err err_now : Option (List ℕ)) : Type 0 where
-  pub options : Options
+  pub options : Command
   pub asks : Asks words options
   pub entries : List Entry
   pub are_entries : OfFile options told (HaveEntries entries options.selection)
@@ -143,7 +143,7 @@ pub record SourceFails (words : List (List ℕ)) (told : Option File) (is_steady
   pub rose : IsErrOf result InfoRead → Rose faults faults_now
   pub kept : result ≢ Err InfoRead → faults_now ≡ faults
   pub steady : IsErrOf result InfoRead → is_steady ≡ true →
-      (options : Options) → Asks words options → IfSome told (λ file. file.name ≢ options.info)
+      (options : Command) → Asks words options → IfSome told (λ file. file.name ≢ options.info)
 
 -- A sink is said to have failed only where it has, and a steady one never. A report, and want of memory, come only where it has not.
 pub record SinkFails {T : Type 0} (which : Which) (is_steady : Bool) (faults faults_now : ℕ) (result : Result T RunFault) : Type 0 where

@@ -1,10 +1,13 @@
-ghost use Rattle.std.specs.Prelude.{◌≡◌, ◌↔◌, ◌≤◌, ℕ, [], false, Err, IfOk, IfErr};
+ghost use Rattle.std.specs.Prelude.{◌≡◌, ◌⊎◌, ◌↔◌, ◌≤◌, ℕ, [], false, Ok, Err, IfOk, IfErr};
 ghost use Rattle.ytdl_core.specs.declared.run_fault.Which.TheVariants as which;
 ghost use Rattle.info_tree.specs.Plain.{plain};
 ghost use Rattle.ytdl_core.specs.Lines.{fault_line, TellsLine};
 ghost use Rattle.ytdl_core.specs.Run.{HasEntries, HaveEntries, IsExact, IsExactOf, IsFaultOfTree, IsOfWords, IsRead, IsReported, IsTold, IsUntold, SinkFails, SourceFails};
-ghost use Rattle.ytdl_core.specs.Views.{plain_selection};
+ghost use Rattle.word_list.specs.declared.fault.WordsFault.TheVariants as faults;
+ghost use Rattle.ytdl_core.specs.Views.{plain_command, plain_selection};
+ghost use Rattle.ytdl_core.specs.Words.{words_of};
 
+use crate::built::{Command, command_of};
 use crate::entry::{Entry, entries};
 use crate::fault_line::fault_line;
 use crate::lines::pieces;
@@ -14,13 +17,12 @@ use crate::run_fault::RunFault;
 use crate::selection::Selection;
 use crate::sink::Sink;
 use crate::source::InfoSource;
-use crate::words::read_words;
-use crate::words_fault::WordsFault;
 use crate::writing::write;
 use info_item::read_items;
 use info_tree::{Tree, read_tree};
 use std::alloc::Global;
 use text_base::Text;
+use word_list::{OptionFault, WordsFault, read_words};
 
 /// Does what the words ask for: reads the information that they name, and prints each item's name.
 ///
@@ -99,17 +101,33 @@ fn answer<I: InfoSource, O: Sink, E: Sink>(
         (E.faults err.old) (E.faults err.new) result }
     ensures later { E.refusals err.old ≤ E.refusals err.new }
 {
-    let options = match read_words(alloc, words) {
-        Ok(options) => options,
+    let command = match read_command(alloc, words) {
+        Ok(command) => command,
         Err(WordsFault::Bad { word, fault }) => return Err(RunFault::Options { word, fault }),
         Err(WordsFault::OutOfMemory) => return Err(RunFault::OutOfMemory),
     };
-    let bytes = read_file(alloc, info, options.info.as_str())?;
-    let entries = read_entries(alloc, &options.selection, &bytes)?;
+    let bytes = read_file(alloc, info, command.info.as_str())?;
+    let entries = read_entries(alloc, &command.selection, &bytes)?;
     let report = report_of(alloc, &entries)?;
-    let pieces = pieces(alloc, &options, &entries)?;
+    let pieces = pieces(alloc, &command, &entries)?;
     write(&pieces, out, err)?;
     Ok(report)
+}
+
+/// The command that words ask for. What is not built is told at the number of words.
+#[tactic(auto, unfolding(crate::specs::Words::words_of))]
+fn read_command(alloc: Global, words: &Vec<Text>) -> Result<Command, WordsFault>
+    ensures command { IfOk result (λ command. words_of words.now.items ≡ Ok (plain_command command)) }
+    ensures fault { IfErr result (λ e. (e ≡ faults.OutOfMemory) ⊎ (words_of words.now.items ≡ Err e)) }
+{
+    let options = read_words(alloc, words)?;
+    match command_of(alloc, options)? {
+        Some(command) => Ok(command),
+        None => Err(WordsFault::Bad {
+            word: words.len(),
+            fault: OptionFault::NotBuilt,
+        }),
+    }
 }
 
 /// The entries of the items that an information file has, by its bytes.

@@ -3,11 +3,12 @@ ghost use Rattle.ytdl_core.specs.Lines.{fault_line, option_text};
 ghost use Rattle.ytdl_core.specs.declared.run_fault.InfoFault.TheVariants as info;
 ghost use Rattle.ytdl_core.specs.declared.run_fault.RunFault.TheVariants as fault;
 
-use crate::run_fault::{InfoFault, OptionFault, RunFault};
+use crate::run_fault::{InfoFault, RunFault};
 use arrayvec::ArrayString;
 use info_item::ItemFault;
 use info_tree::TreeFault;
 use itoa::Buffer;
+use word_list::OptionFault;
 
 /// A line of a fault: at most 40 bytes of text, and a number.
 pub type Line = ArrayString<80>;
@@ -48,7 +49,9 @@ fn option_text(option: OptionFault) -> &'static str
         OptionFault::Unknown => "unknown option",
         OptionFault::NeedsValue => "value missing",
         OptionFault::BadValue => "bad value",
+        OptionFault::Selector(_) => "bad selector",
         OptionFault::Sort(_) => "bad sort field",
+        OptionFault::Template(_) => "bad template",
         OptionFault::NoInfo => "no --load-info-json",
         OptionFault::Extra => "unexpected word",
         OptionFault::TakesNone => "takes no value",

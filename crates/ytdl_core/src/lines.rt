@@ -2,10 +2,10 @@ ghost use Rattle.std.specs.Prelude.{◌≡◌, ◌+◌, ◌++◌, ◌<◌, ◌^�
 ghost use Rattle.std.specs.String.{string_bytes};
 ghost use Rattle.ytdl_core.specs.Lines.{line_of, lines_of, name_line, name_lines, all_to};
 ghost use Rattle.ytdl_core.specs.Pieces.{script_of};
-ghost use Rattle.ytdl_core.specs.Views.{plain_options};
+ghost use Rattle.ytdl_core.specs.Views.{plain_command};
 
+use crate::built::Command;
 use crate::entry::Entry;
-use crate::options::Options;
 use crate::run_fault::Which;
 use std::alloc::{AllocError, Global};
 use text_base::OutOfMemory;
@@ -20,14 +20,14 @@ pub struct Piece {
 /// The lines of entries, in as few pieces as keep their order.
 pub fn pieces(
     alloc: Global,
-    options: &Options,
+    command: &Command,
     entries: &[Entry],
 ) -> Result<Vec<Piece>, OutOfMemory>
-    ensures { IfOk result (λ pieces. script_of pieces.items ≡ lines_of (plain_options options.now) 1 entries.now) }
+    ensures { IfOk result (λ pieces. script_of pieces.items ≡ lines_of (plain_command command.now) 1 entries.now) }
 {
     let mut pieces = Vec::new(alloc);
     for (place, entry) in entries.iter().enumerate() {
-        let line = line(alloc, options, place + 1, entry)?;
+        let line = line(alloc, command, place + 1, entry)?;
         add(&mut pieces, line)?;
     }
     Ok(pieces)
@@ -55,17 +55,17 @@ fn add(pieces: &mut Vec<Piece>, line: Piece) -> Result<(), OutOfMemory>
 /// The lines of an entry, by its item's number.
 fn line(
     alloc: Global,
-    options: &Options,
+    command: &Command,
     number: usize,
     entry: &Entry,
 ) -> Result<Piece, OutOfMemory>
     ensures { IfOk result (λ piece. all_to piece.which (string_bytes piece.bytes) ≡
-        line_of (plain_options options.now) number entry.now) }
+        line_of (plain_command command.now) number entry.now) }
 {
     match entry {
         Entry::Shown { stem, extension } => Ok(Piece {
             which: Which::Out,
-            bytes: name_lines(alloc, options, stem.as_str(), extension.as_str())?,
+            bytes: name_lines(alloc, command, stem.as_str(), extension.as_str())?,
         }),
         Entry::NoFormat => Ok(Piece {
             which: Which::Err,
@@ -81,18 +81,18 @@ fn line(
 /// A name by itself for each print, and as simulated where the run is not quiet.
 fn name_lines(
     alloc: Global,
-    options: &Options,
+    command: &Command,
     stem: &str,
     extension: &str,
 ) -> Result<String, AllocError>
     ensures { IfOk result (λ lines. string_bytes lines ≡
-        name_lines (plain_options options.now) (name_line stem.now extension.now)) }
+        name_lines (plain_command command.now) (name_line stem.now extension.now)) }
 {
     let mut lines = String::new(alloc);
-    for _print in 0..options.prints {
+    for _print in 0..command.prints {
         push_name(&mut lines, stem, extension)?;
     }
-    if !options.quiet {
+    if !command.quiet {
         lines.push_str("[simulate] ")?;
         push_name(&mut lines, stem, extension)?;
     }

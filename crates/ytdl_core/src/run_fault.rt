@@ -1,27 +1,8 @@
-use fmt_sort::SortFault;
 use info_item::ItemFault;
 use info_tree::TreeFault;
 use std::alloc::AllocError;
 use text_base::OutOfMemory;
-
-/// Why a word of the command line is refused.
-#[derive(Clone, Copy, Debug, PartialEq, Eq)]
-pub enum OptionFault {
-    /// No option has this name, or letters stand behind the letter of a flag.
-    Unknown,
-    /// The words end where the option's value should stand.
-    NeedsValue,
-    BadValue,
-    /// A piece of a sort word; pieces count from 0 over all sort words up to there.
-    Sort(SortFault),
-    /// No word names the file of information.
-    NoInfo,
-    /// It is no option and no value of one.
-    Extra,
-    /// A value is joined to a flag.
-    TakesNone,
-    NotBuilt,
-}
+use word_list::OptionFault;
 
 /// Why an information file gives no items.
 #[derive(Clone, Copy, Debug, PartialEq, Eq)]

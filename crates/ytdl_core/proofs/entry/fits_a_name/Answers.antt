@@ -1,4 +1,3 @@
-use Rattle.std.proofs.Common.{◌≡◌}
 use Rattle.ytdl_core.proofs.EntryLemmas.{fits_where_first_is_last}
 use Rattle.ytdl_core.proofs.entry.fits_a_name.Goals as goal
 

@@ -1,4 +1,4 @@
-use Rattle.std.proofs.Common.{◌≡◌, ◌∙◌, sym, arith}
+use Rattle.std.proofs.Common.{◌∙◌, sym}
 use Rattle.ytdl_core.proofs.EntryLemmas.{all_shut_from}
 use Rattle.ytdl_core.proofs.entry.shut_from.Goals as goal
 

@@ -1,7 +1,6 @@
-use Rattle.std.proofs.Common.{◌≡◌, ◌∙◌, ◌++◌, ◌∷◌, [], Bool, true, false, not, refl, sym, ap, rules}
+use Rattle.std.proofs.Common.{◌≡◌, ◌∙◌, Bool, true, false, not, refl, sym, rules}
 use denote.Enum.Bare.{same_true}
 use Rattle.ytdl_core.specs.contracts.run_fault.Which.{the_type}
-use Rattle.ytdl_core.specs.Pieces.{script_of}
 use Rattle.ytdl_core.proofs.ScriptLemmas.{script_of-push, script_of-grown}
 use Rattle.ytdl_core.proofs.lines.add.Goals as goal
 

@@ -1,4 +1,4 @@
-use Rattle.std.proofs.Common.{◌≡◌, ◌≤◌, ◌<◌, length, length-take, arith}
+use Rattle.std.proofs.Common.{◌<◌, length, length-take, arith}
 use Rattle.ytdl_core.proofs.ReadingLemmas.{read_to_end, read_to_limit}
 use Rattle.ytdl_core.proofs.reading.read_open.Goals as goal
 

@@ -1,4 +1,4 @@
-use Rattle.std.proofs.Common.{◌≡◌, ◌++◌, drop, length}
+use Rattle.std.proofs.Common.{◌≡◌, ◌++◌, drop}
 use Rattle.ytdl_core.specs.Report.{ends_of}
 use Rattle.ytdl_core.proofs.report.report_of.Given as goal
 

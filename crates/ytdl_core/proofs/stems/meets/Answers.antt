@@ -1,4 +1,4 @@
-use Rattle.std.proofs.Common.{◌≡◌, ◌∙◌, true, sym}
+use Rattle.std.proofs.Common.{◌∙◌, sym}
 use Rattle.ytdl_core.proofs.StemLemmas.{last_tells, neighbours_tell}
 use Rattle.ytdl_core.proofs.stems.meets.Goals as goal
 

@@ -1,4 +1,4 @@
-use Rattle.std.proofs.Common.{◌≡◌, ◌∙◌}
+use Rattle.std.proofs.Common.{◌∙◌}
 use Rattle.ytdl_core.proofs.ScriptLemmas.{sends_out, sends_err, some_out, some_err}
 use Rattle.std.specs.String.{string_bytes}
 use Rattle.ytdl_core.proofs.writing.put.Goals as goal

@@ -1,9 +1,9 @@
-use Rattle.std.proofs.Common.{◌≡◌, ◌≤◌, ◌∙◌, take, drop, ◌+◌, ◌++◌, arith, refl}
-use Rattle.std.specs.Prelude.{Err, true}
+use Rattle.std.proofs.Common.{◌∙◌, take, drop, ◌+◌, ◌++◌, arith, refl}
+use Rattle.std.specs.Prelude.{Err}
 use Rattle.std.proofs.lemmas.Result.{err_from_is_err_and}
 use Rattle.std.specs.String.{string_bytes}
 use Rattle.ytdl_core.specs.declared.run_fault.Which.TheVariants as which
-use Rattle.ytdl_core.specs.Lines.{Sends, SendsSome, all_to}
+use Rattle.ytdl_core.specs.Lines.{all_to}
 use Rattle.ytdl_core.specs.Pieces.{script_of}
 use Rattle.ytdl_core.proofs.FaultLemmas.{sink_fails_since}
 use Rattle.ytdl_core.proofs.ScriptLemmas.{script_at, script_up_to, sends_more, some_more, some_front}

@@ -1,4 +1,4 @@
-use Rattle.std.proofs.Common.{◌≡◌, ◌≤◌, ℕ, ◌-◌, length, drop, take, min, rules, arith}
+use Rattle.std.proofs.Common.{◌≡◌}
 use Rattle.ytdl_core.proofs.MemoryLemmas.{read_step}
 use Rattle.ytdl_core.proofs.info_mem.InfoMemInfoSource.read.Goals as goal
 

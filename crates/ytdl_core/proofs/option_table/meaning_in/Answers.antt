@@ -1,8 +1,0 @@
-use Rattle.ytdl_core.proofs.TableLemmas.{meaning_plain}
-use Rattle.ytdl_core.proofs.option_table.meaning_in.Goals as goal
-
-pub returns-in-Some : goal.returns-in-Some
-returns-in-Some c = rw (meaning_plain c.args.rows.now c.args.name.now, ← c.in-Some.ensures)
-
-pub returns-in-None : goal.returns-in-None
-returns-in-None c = rw (meaning_plain c.args.rows.now c.args.name.now, ← c.in-None.ensures)
