@@ -331,7 +331,8 @@ const ORDERS: [(&[&str], bool, usize, SortKey); 4] = [
 #[test]
 fn sort_words_set_an_order(rt: HostRuntime) -> Result<(), Fail> {
     for (words, free, place, field) in &ORDERS {
-        let sort = asked(rt.alloc(), words)?.plan.sort;
+        let options = asked(rt.alloc(), words)?;
+        let sort = &options.plan.sort;
         assert_eq!(rt; sort.free, *free, "{words:?}");
         let key = sort.fields.get(*place).map(|field| field.key);
         assert_eq!(rt; key, Some(*field), "{words:?}");
