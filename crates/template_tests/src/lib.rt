@@ -4,6 +4,8 @@
 #[cfg(test)]
 mod field_texts;
 #[cfg(test)]
+mod fills;
+#[cfg(test)]
 mod names;
 #[cfg(test)]
 mod templates;

@@ -1,0 +1,9 @@
+pub mod Convert
+pub mod Dates
+pub mod Field
+pub mod Fill
+pub mod Layout
+pub mod Path
+pub mod Slice
+pub mod Steps
+pub mod Value

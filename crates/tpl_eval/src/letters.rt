@@ -1,0 +1,26 @@
+//! The characters of a text.
+ghost use Rattle.std.specs.Prelude.{◌≡◌, length, slice_get, IfOk};
+ghost use Rattle.std.specs.Str.{chars};
+
+use std::alloc::{AllocError, Global};
+
+/// How many characters a text has.
+pub(crate) fn count_letters(text: &str) -> usize
+    ensures { result ≡ length (chars text.now) }
+{
+    text.chars().count()
+}
+
+/// The character at a place from the front.
+pub(crate) fn letter_at(text: &str, place: usize) -> Option<char>
+    ensures { result ≡ slice_get (chars text.now) place }
+{
+    text.chars().nth(place)
+}
+
+/// The characters, one after another.
+pub(crate) fn letters_of(alloc: Global, text: &str) -> Result<Vec<char>, AllocError>
+    ensures { IfOk result (λ letters. letters.items ≡ chars text.now) }
+{
+    text.chars().collect(alloc)
+}
