@@ -30,22 +30,22 @@ fn ffmpeg_merges_copies_and_remuxes(rt: HostRuntime) -> Result<(), Fail> {
     let video = ffmpeg_job(
         alloc,
         "-y -f lavfi -i testsrc=d=1:s=64x64 -c:v mpeg4",
-        "v.mp4",
+        "video.mp4",
     )?;
     if tools.run(alloc, &mut folder, &video).is_err() {
         println!(rt; "no ffmpeg in PATH: its test does nothing")?;
         return Ok(());
     }
     let mut steps = Vec::new(alloc);
-    steps.push(ffmpeg_job(alloc, "-y -f lavfi -i sine=d=1", "a.m4a")?)?;
-    let merge = "-y -i ./v.mp4 -i ./a.m4a -map 0:v:0 -map 1:a:0 -c copy";
-    steps.push(ffmpeg_job(alloc, merge, "m.mp4")?)?;
-    steps.push(ffmpeg_job(alloc, "-y -i ./m.mp4 -vn -c:a copy", "x.m4a")?)?;
-    steps.push(ffmpeg_job(alloc, "-y -i ./m.mp4 -c copy", "m.mkv")?)?;
+    steps.push(ffmpeg_job(alloc, "-y -f lavfi -i sine=d=1", "audio.m4a")?)?;
+    let merge = "-y -i ./video.mp4 -i ./audio.m4a -map 0:v:0 -map 1:a:0 -c copy";
+    steps.push(ffmpeg_job(alloc, merge, "merged.mp4")?)?;
+    steps.push(ffmpeg_job(alloc, "-y -i ./merged.mp4 -vn -c:a copy", "copied.m4a")?)?;
+    steps.push(ffmpeg_job(alloc, "-y -i ./merged.mp4 -c copy", "remuxed.mkv")?)?;
     for step in &steps {
         assert_eq!(rt; tools.run(alloc, &mut folder, step), Ok(0));
     }
-    for output in &["a.m4a", "m.mp4", "x.m4a", "m.mkv"] {
+    for output in &["audio.m4a", "merged.mp4", "copied.m4a", "remuxed.mkv"] {
         assert!(rt; folder.size(output)?.is_some());
     }
     Ok(())

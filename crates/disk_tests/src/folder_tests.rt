@@ -64,13 +64,13 @@ fn what_is_no_file_is_a_fault(rt: HostRuntime) -> Result<(), Fail> {
     symlink(&rt, "t.mp4", "to_folder")?;
     symlink(&rt, "/proc/self", "locked")?;
     let mut folder = DiskFolder::new(&rt, rt.alloc());
-    assert_eq!(rt; folder.create("a"), Ok(()));
-    assert_eq!(rt; folder.create("a/no/folder"), REFUSED);
+    assert_eq!(rt; folder.create("plain"), Ok(()));
+    assert_eq!(rt; folder.create("plain/no/folder"), REFUSED);
     // A folder that was not made leaves nothing to settle.
     assert_eq!(rt; folder.settle(), Ok(()));
     assert_eq!(rt; folder.size("t.mp4"), Err(Failed));
-    assert_eq!(rt; folder.rename("a", "t.mp4"), REFUSED);
-    assert_eq!(rt; folder.rename("a", "to_folder"), REFUSED);
+    assert_eq!(rt; folder.rename("plain", "t.mp4"), REFUSED);
+    assert_eq!(rt; folder.rename("plain", "to_folder"), REFUSED);
     assert_eq!(rt; folder.remove("t.mp4"), REFUSED);
     assert_eq!(rt; folder.create("locked/a"), REFUSED);
     assert_eq!(rt; folder.append("missing", b"x"), REFUSED);
