@@ -1,3 +1,4 @@
 pub mod FillLemmas
+pub mod LimitLemmas
 pub mod PathLemmas
 pub mod SliceLemmas

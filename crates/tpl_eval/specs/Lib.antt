@@ -3,6 +3,7 @@ pub mod Dates
 pub mod Field
 pub mod Fill
 pub mod Layout
+pub mod Limit
 pub mod Path
 pub mod Slice
 pub mod Steps

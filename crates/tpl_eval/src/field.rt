@@ -11,6 +11,7 @@ ghost use Rattle.tpl_eval.specs.Field as spec;
 use crate::convert::converted;
 use crate::fill_fault::FillFault;
 use crate::filling::MOST_BYTES;
+use crate::limit::limit_of;
 use crate::marks::{Clean, Marks};
 use crate::replacement::replaced;
 use crate::value::first_value;
@@ -20,7 +21,7 @@ use info_tree::Tree;
 use name_text::clean;
 use std::alloc::Global;
 use text_base::{Num, OutOfMemory, Text};
-use tpl_lang::Field;
+use tpl_lang::{Conv, Field, Replacement};
 
 /// How a count is printed: with at least five digits.
 const COUNT: IntegerForm = IntegerForm {
@@ -91,9 +92,22 @@ fn printed(alloc: Global, field: &Field, value: &Tree) -> Result<Option<Text>, O
     ensures { IfOk result (λ t. t ≡ converted (field.now.conv) (spec.replaced field.now.replacement (plain value.now))) }
 {
     match field.replacement() {
-        Some(replacement) => converted(alloc, field.conv(), &replaced(alloc, replacement, value)?),
+        Some(replacement) => replacement_by(alloc, field.conv(), replacement, value),
         None => converted(alloc, field.conv(), value),
     }
+}
+
+/// The text of what replaces a value, by a conversion. No more of it is built than is kept.
+fn replacement_by(
+    alloc: Global,
+    conv: Conv,
+    replacement: &Replacement,
+    value: &Tree,
+) -> Result<Option<Text>, OutOfMemory>
+    ensures { IfOk result (λ t. t ≡ converted conv (spec.replaced (Some replacement.now) (plain value.now))) }
+{
+    let text = replaced(alloc, limit_of(conv), replacement, value)?;
+    converted(alloc, conv, &text)
 }
 
 /// The text of a field's value, before it is cleaned: none where there is no value, or it is refused.

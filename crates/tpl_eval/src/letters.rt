@@ -1,5 +1,5 @@
 //! The characters of a text.
-ghost use Rattle.std.specs.Prelude.{◌≡◌, length, slice_get, IfOk};
+ghost use Rattle.std.specs.Prelude.{◌≡◌, ◌≤◌, length, min, slice_get, IfOk};
 ghost use Rattle.std.specs.Str.{chars};
 
 use std::alloc::{AllocError, Global};
@@ -9,6 +9,14 @@ pub(crate) fn count_letters(text: &str) -> usize
     ensures { result ≡ length (chars text.now) }
 {
     text.chars().count()
+}
+
+/// How many characters a text has, up to so many: no more are looked at.
+pub(crate) fn count_letters_to(text: &str, most: usize) -> usize
+    ensures value { result ≡ min most (length (chars text.now)) }
+    ensures within { result ≤ most }
+{
+    text.chars().take(most).count()
 }
 
 /// The character at a place from the front.

@@ -10,6 +10,7 @@ mod filling;
 mod int;
 mod layout;
 mod letters;
+mod limit;
 mod marks;
 mod path;
 mod replacement;
