@@ -1,1 +1,3 @@
 pub mod ListingLemmas
+pub mod OrderLemmas
+pub mod SetLemmas

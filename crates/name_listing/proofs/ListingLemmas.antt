@@ -1,6 +1,6 @@
 -- What is known once one folder's names are others.
 use Rattle.std.proofs.Common.{◌≡◌, Bool, true, false, cond, refl, sym, ◌∙◌, ap, String, BTreeMap}
-use Rattle.std.specs.Prelude.{Option, Some, None, option_map, bytes_eq, is_err, Result, Ok, Err, OnOk, if◌then◌else◌}
+use Rattle.std.specs.Prelude.{Option, Some, None, option_map, bytes_eq, is_err, Result, Ok, Err, OnOk, OnErr, if◌then◌else◌}
 use Rattle.std.specs.BTreeMap.{UpdatesBy, get_by_text}
 use Rattle.std.specs.String.{string_cmp, string_bytes}
 use Rattle.std.specs.Ordering.{nat_cmp}
@@ -42,19 +42,24 @@ forgotten folder old mid new names first second other name =
     by true = refl
     by false = refl
 
--- A name was noted in a folder that is known.
-pub noted_by : (folder name : Name) (stands : Bool) (old new : Folders) (names after : Names) → get_by_text old folder ≡ Some names → Sets folder old new (Some after)
-    → ((one : Name) → has after one ≡ (if bytes_eq name one then stands else has names one)) → (other one : Name) → known_in new other one ≡ noted folder name stands (known_in old) other one
-noted_by folder name stands old new names after was sets is other one = known_by folder old new (Some after) sets other one ∙ by (bytes_eq folder other) refl
+-- Some names were noted in a folder that is known.
+pub noted_by : (folder : Name) (share : Name → Bool) (stand : Bool) (old new : Folders) (names after : Names) → get_by_text old folder ≡ Some names → Sets folder old new (Some after)
+    → ((one : Name) → has after one ≡ (if share one then stand else has names one)) → (other one : Name) → known_in new other one ≡ noted folder share stand (known_in old) other one
+noted_by folder share stand old new names after was sets is other one = known_by folder old new (Some after) sets other one ∙ by (bytes_eq folder other) refl
   where
     by : (b : Bool) → bytes_eq folder other ≡ b
-        → (if b then Some (has after one) else known_in old other one) ≡ (if b then option_map (λ (stood : Bool). if bytes_eq name one then stands else stood) (known_in old other one) else known_in old other one)
+        → (if b then Some (has after one) else known_in old other one) ≡ (if b then option_map (λ (stood : Bool). if share one then stand else stood) (known_in old other one) else known_in old other one)
     by false e = refl
     by true e = ap (λ (b : Bool). Some b) (is one)
-        ∙ sym (ap (λ (o : Option Names). option_map (λ (stood : Bool). if bytes_eq name one then stands else stood) (option_map (λ (n : Names). has n one) o))
+        ∙ sym (ap (λ (o : Option Names). option_map (λ (stood : Bool). if share one then stand else stood) (option_map (λ (n : Names). has n one) o))
         (ap (λ (f : Name). get_by_text old f) (sym ((bytes_eq-Decides folder other).0 e)) ∙ was))
 
 -- What holds of an answer that is no error.
 pub holds_then : {T E : Type 0} {P : Type 0} (r : Result T E) → is_err r ≡ false → OnOk r P → P
 holds_then (Ok x) e h = h
 holds_then (Err x) e h = absurd (cc)
+
+-- What holds whatever the error.
+pub on_err : {T E : Type 0} {P : Type 0} (r : Result T E) → P → OnErr r P
+on_err (Ok x) p = tt
+on_err (Err x) p = p

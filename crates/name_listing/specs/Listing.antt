@@ -12,11 +12,15 @@ known listing folder name = option_map (λ names. has names name) (get_by_text l
 abbrev pub Forgets : Name → Listing → Listing → Type 0
 Forgets folder old new = (other name : Name) → known new other name ≡ (if bytes_eq folder other then None else known old other name)
 
--- what is known once a name is in a folder, or is not
-abbrev pub noted : Name → Name → Bool → (Name → Name → Option Bool) → Name → Name → Option Bool
-noted folder name stands known other one =
-    if bytes_eq folder other then option_map (λ stood. if bytes_eq name one then stands else stood) (known other one) else known other one
+-- what is known once some names are in a folder, or are not
+abbrev pub noted : Name → (Name → Bool) → Bool → (Name → Name → Option Bool) → Name → Name → Option Bool
+noted folder names stand known other one =
+    if bytes_eq folder other then option_map (λ stood. if names one then stand else stood) (known other one) else known other one
+
+-- Some names are noted in a folder, where that is known, and all else is as it was.
+abbrev pub NotesAll : Name → (Name → Bool) → Bool → Listing → Listing → Type 0
+NotesAll folder names stand old new = (other one : Name) → known new other one ≡ noted folder names stand (known old) other one
 
 -- The name is noted in its folder, where that is known, and all else is as it was.
 abbrev pub Notes : Name → Name → Bool → Listing → Listing → Type 0
-Notes folder name stands old new = (other one : Name) → known new other one ≡ noted folder name stands (known old) other one
+Notes folder name = NotesAll folder (bytes_eq name)

@@ -1,6 +1,6 @@
 ghost use Rattle.std.specs.Prelude.{◌≡◌, ◌⊎◌, option_map, None, Some, false, true, is_some, OnOk, OnErr, bytes_eq, if◌then◌else◌};
 ghost use Rattle.name_listing.specs.Names.{Name, has};
-ghost use Rattle.name_listing.specs.Listing.{known, Forgets, Notes};
+ghost use Rattle.name_listing.specs.Listing.{known, Forgets, Notes, NotesAll};
 
 use crate::names::Names;
 use std::alloc::{AllocError, Global};
@@ -82,7 +82,9 @@ impl Listing {
     }
 
     /// Takes the names of a share out of a folder.
-    pub fn hand_out(&mut self, folder: &str, share: &Names) {
+    pub fn hand_out(&mut self, folder: &str, share: &Names)
+        ensures { NotesAll folder.now (has share.now) false self.old self.new }
+    {
         if let Some(names) = self.folders.get_mut(folder) {
             names.hand_out(share);
         }
@@ -90,7 +92,9 @@ impl Listing {
 
     /// Puts the names of a share into a folder. Where memory for them is refused the folder is
     /// forgotten.
-    pub fn take_in(&mut self, folder: &str, share: &Names) {
+    pub fn take_in(&mut self, folder: &str, share: &Names)
+        ensures { NotesAll folder.now (has share.now) true self.old self.new ⊎ Forgets folder.now self.old self.new }
+    {
         let Some(names) = self.folders.get_mut(folder) else {
             return;
         };

@@ -1,5 +1,6 @@
-ghost use Rattle.std.specs.Prelude.{◌≡◌, false, true, OnOk, OnErr, bytes_eq, if◌then◌else◌};
-ghost use Rattle.name_listing.specs.Names.{has, Has};
+ghost use Rattle.std.specs.Prelude.{◌≡◌, false, true, ◌&&◌, IfOk, OnOk, OnErr, bytes_eq, if◌then◌else◌};
+ghost use Rattle.std.specs.List.{filter};
+ghost use Rattle.name_listing.specs.Names.{has, Has, PutsSome, names_of, begins, is_part};
 
 use std::alloc::{AllocError, Global};
 use std::collections::BTreeSet;
@@ -50,7 +51,9 @@ impl Names {
     }
 
     /// The names that begin with `prefix`, in order.
-    pub fn list(&self, alloc: Global, prefix: &str) -> Result<Vec<Text>, AllocError> {
+    pub fn list(&self, alloc: Global, prefix: &str) -> Result<Vec<Text>, AllocError>
+        ensures { IfOk result (λ list. list.items ≡ filter (begins prefix.now) (names_of self.now)) }
+    {
         let mut list = Vec::new(alloc);
         let first = String::from_str(alloc, prefix)?;
         for name in self.set.range(first..) {
@@ -63,28 +66,36 @@ impl Names {
     }
 
     /// The names of the part with this stem: the stem, and what begins with it and a point.
-    pub fn share(&self, stem: &str) -> Result<Names, AllocError> {
+    pub fn share(&self, stem: &str) -> Result<Names, AllocError>
+        ensures { IfOk result (Has (λ name. is_part stem.now name && has self.now name)) }
+    {
         let mut share = Names::new(self.alloc);
-        if self.has(stem) {
-            share.put(stem)?;
-        }
         let mut point = String::from_str(self.alloc, stem)?;
         point.push('.')?;
-        for name in self.list(self.alloc, point.as_str())? {
+        let names = self.list(self.alloc, point.as_str())?;
+        for name in &names {
             share.put(name.as_str())?;
+        }
+        if self.has(stem) {
+            share.put(stem)?;
         }
         Ok(share)
     }
 
     /// Takes the names of a share out of the set.
-    pub fn hand_out(&mut self, share: &Names) {
+    pub fn hand_out(&mut self, share: &Names)
+        ensures { Has (λ name. if has share.now name then false else has self.old name) self.new }
+    {
         for name in &share.set {
             self.take_away(name.as_str());
         }
     }
 
     /// Puts the names of a share into the set.
-    pub fn take_in(&mut self, share: &Names) -> Result<(), AllocError> {
+    pub fn take_in(&mut self, share: &Names) -> Result<(), AllocError>
+        ensures put { OnOk result (Has (λ name. if has share.now name then true else has self.old name) self.new) }
+        ensures some { OnErr result (PutsSome (has share.now) self.old self.new) }
+    {
         for name in &share.set {
             self.put(name.as_str())?;
         }

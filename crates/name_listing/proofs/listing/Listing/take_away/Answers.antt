@@ -1,4 +1,5 @@
 use Rattle.std.proofs.Common.{◌≡◌, rules, Some, false}
+use Rattle.std.specs.Prelude.{bytes_eq}
 use Rattle.std.specs.BTreeMap.{get_by_text}
 use Rattle.name_listing.proofs.ListingLemmas.{noted_by}
 use Rattle.name_listing.proofs.listing.Listing.take_away.Goals as goal
@@ -6,5 +7,5 @@ use Rattle.name_listing.proofs.listing.Listing.take_away.Goals as goal
 pub returns-in-Some : goal.returns-in-Some
 returns-in-Some c =
     let was : get_by_text c.args.self.now.folders c.args.folder.now ≡ Some c.in-Some.names.now = search rules in
-    noted_by c.args.folder.now c.args.name.now false c.args.self.now.folders (c.get_mut.follows.lender c.take_away.new.self) c.in-Some.names.now c.take_away.new.self was
+    noted_by c.args.folder.now (bytes_eq c.args.name.now) false c.args.self.now.folders (c.get_mut.follows.lender c.take_away.new.self) c.in-Some.names.now c.take_away.new.self was
     ((c.get_mut.follows.holds c.take_away.new.self).3 (search rules)) c.take_away.ensures
