@@ -1,14 +1,11 @@
 -- When the count of faults rises as parts come back.
-use Rattle.std.proofs.Common.{◌≡◌, inl, inr, ℕ, ◌≤◌, Bool, true, false, ◌||◌, List, [], ◌∷◌, length, map, refl, sym, ◌∙◌, ap, subst, arith}
-use Rattle.std.specs.Prelude.{All, MatchBool, nat_lt, Vec, Result, Ok, Err, IfOk}
-use Rattle.std.specs.declared.alloc.Global.{Global}
-use Rattle.std.proofs.lemmas.List.{length-map}
-use Rattle.folder_base.specs.Disk.{Name}
+use Rattle.std.proofs.Common.{◌≡◌, inl, inr, ℕ, ◌≤◌, Bool, true, false, ◌||◌, List, [], ◌∷◌, map, refl, sym, ◌∙◌, ap, subst, arith}
+use Rattle.std.specs.Prelude.{All, MatchBool, nat_lt}
 use Rattle.std.specs.List.{list_any}
 use Rattle.std.proofs.lemmas.Bool.Decides.{nat_tests}
 use Rattle.std.proofs.lemmas.List.Elements.{All-head, All-tail, All-map}
 use Rattle.text_base.specs.Causes.{Rose}
-use Rattle.folder_base.specs.Story.{World, SomeRose, RosesWith, Begins, AreBegun, Collects}
+use Rattle.folder_base.specs.Story.{World, SomeRose, RosesWith, Begins, Collects}
 use Rattle.disk_folder.specs.Silent.{silent}
 use Rattle.folder_base.proofs.Disjoint.{so_left, so_right}
 
@@ -53,13 +50,4 @@ collects world before now parts flag zero is count later = record {
   steady = λ e. e;
   faults = roses_with (λ (w : World). w.faults) (map world parts) (silent before) (silent now) flag (is ∙ sym (any_map world parts)) count later;
   refusals = never_rose (λ (w : World). w.refusals) (map world parts) (silent before) (silent now) refl refl (All-map (λ (w : World). w.refusals ≡ 0) world parts (λ k d below. zero _));
-}
-
--- Parts that were handed out, as they are answered.
-pub handed : {X E F : Type 0} (world : X → World) (stems : List Name) (faults : ℕ) (done : Result (Vec X Global) E) (answer : Result (Vec X Global) F) → IfOk answer (λ parts. done ≡ Ok parts)
-    → IfOk done (λ parts. length parts.items ≡ length stems) → IfOk done (λ parts. All (λ part. world part ≡ silent 0) parts.items) → IfOk answer (λ parts. AreBegun stems (silent faults) (map world parts.items))
-handed world stems faults done (Err fault) is long begun = tt
-handed {X} {E} world stems faults done (Ok parts) is long begun = record {
-  one_each = length-map parts.items world ∙ subst (λ (d : Result (Vec X Global) E). IfOk d (λ p. length p.items ≡ length stems)) is long;
-  each = all_begin world faults parts.items (subst (λ (d : Result (Vec X Global) E). IfOk d (λ p. All (λ part. world part ≡ silent 0) p.items)) is begun);
 }
