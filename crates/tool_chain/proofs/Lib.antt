@@ -1,3 +1,4 @@
+pub mod MemoryLemmas
 pub mod StepLemmas
 pub mod ChainLemmas
 pub mod StepEnds

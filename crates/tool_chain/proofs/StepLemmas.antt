@@ -18,7 +18,7 @@ use Rattle.folder_steps.proofs.RemovalLemmas.{after_remove}
 use Rattle.tool_chain.specs.Jobs.{Job, is_output}
 use Rattle.tool_chain.specs.Runs.{Spares}
 
-never : true ≡ false → ⊥
+pub never : true ≡ false → ⊥
 never e = cc
 
 as_before : (loose : Name → Bool) (disk : Disk) (image : Image) → May disk image → Follows (May disk) (Beside loose) image

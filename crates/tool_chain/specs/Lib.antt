@@ -1,3 +1,4 @@
 pub mod Jobs
 pub mod Runs
 pub mod Chain
+pub mod Memory
