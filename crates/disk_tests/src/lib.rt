@@ -9,3 +9,5 @@ mod counting;
 mod ffmpeg_tests;
 #[cfg(test)]
 mod folder_tests;
+#[cfg(test)]
+mod memory_tests;
