@@ -6,7 +6,7 @@ use Rattle.folder_base.specs.Story.{Story, Through}
 use Rattle.folder_base.specs.declared.store_fault.StoreFault.{StoreFault}
 use Rattle.folder_base.proofs.Moments.{joined, weaker}
 use Rattle.folder_steps.specs.Follow.{Always, Follows, Thinner, IsLive}
-use Rattle.folder_steps.specs.Make.{IsLoose, Replaced, IsReplacing, IsReplaced}
+use Rattle.folder_steps.specs.Make.{IsReplacing, IsReplaced}
 use Rattle.folder_steps.proofs.ImageLemmas.{ends}
 use Rattle.folder_steps.proofs.RemovalLemmas.{unchanged}
 use Rattle.archive_store.specs.Adding.{spare_of, bytes_at, IsAdding}

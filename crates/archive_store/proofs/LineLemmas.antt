@@ -1,17 +1,17 @@
 -- An archive's bytes read as lines, a piece at a time.
-use Rattle.std.proofs.Common.{◌≡◌, ⊎_elim, ℕ, ◌+◌, ◌<◌, ◌≤◌, Bool, true, false, List, [], ◌∷◌, ◌++◌, length, take, get_or, refl, sym, ◌∙◌, ap, arith, ltb}
-use Rattle.std.specs.Prelude.{not, ◌||◌, ◌==◌, cond, bytes_eq, position, Result, Ok, Err, OnOk, Option, Some, None, option_map}
-use Rattle.std.specs.List.{list_any, enumerate_from, position_or_len}
+use Rattle.std.proofs.Common.{◌≡◌, ⊎_elim, ℕ, ◌+◌, ◌<◌, Bool, true, false, List, [], ◌∷◌, ◌++◌, length, take, get_or, refl, sym, ◌∙◌, ap, arith, ltb}
+use Rattle.std.specs.Prelude.{not, ◌||◌, ◌==◌, cond, bytes_eq, Result, Ok, Err, OnOk, Some, None, option_map}
+use Rattle.std.specs.List.{enumerate_from, position_or_len}
 use Rattle.std.specs.Str.{IsTrimAscii, IsUtf8, is_utf8}
 use Rattle.std.proofs.Math.Bool.{or_comm}
 use Rattle.std.proofs.lemmas.Bool.{lt-ltb, le-ltb, cases_lt}
-use Rattle.std.proofs.lemmas.List.{take_more, take_all, get_or_default}
+use Rattle.std.proofs.lemmas.List.{take_more, get_or_default}
 use Rattle.std.proofs.lemmas.List.Folds.{list_any-append}
 use Rattle.std.proofs.lemmas.List.FromFn.{length-enumerate_from, get_or-enumerate_from}
 use Rattle.std.proofs.lemmas.List.Sums.{position_or_len_is}
 use Rattle.std.proofs.lemmas.Str.{IsUtf8-from_is_utf8}
 use Rattle.std.proofs.lemmas.Str.Ascii.{trim_ascii_is}
-use Rattle.archive_store.specs.Lines.{pieces_of, trimmed, front_trimmed, has_bytes, lines_in, lines_of, is_among, bad_line}
+use Rattle.archive_store.specs.Lines.{pieces_of, trimmed, front_trimmed, lines_in, is_among, bad_line}
 use Rattle.archive_store.proofs.GrownLemmas.{lines_both}
 
 -- what a text is without white space at its ends

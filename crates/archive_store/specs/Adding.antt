@@ -1,5 +1,5 @@
 -- What a crash leaves while a line is added to an archive, and what stands then.
-use Rattle.std.specs.Prelude.{List, [], ◌++◌, codes, unwrap_or}
+use Rattle.std.specs.Prelude.{[], ◌++◌, codes, unwrap_or}
 use Rattle.folder_base.specs.Disk.{Name, Bytes, Disk, Image}
 use Rattle.keep_store.specs.Safe.{reads}
 use Rattle.folder_steps.specs.Make.{IsReplacing, IsReplaced}

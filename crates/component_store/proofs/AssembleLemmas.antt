@@ -1,27 +1,25 @@
 -- What a crash leaves while a component is put together, and its soundness through it.
-use Rattle.std.proofs.Common.{◌≡◌, ◌⊎◌, inl, inr, ⊎_elim, ℕ, zero, suc, ◌+◌, Bool, true, false, IsTrue, List, [], ◌∷◌, ◌++◌, length, refl, sym, ◌∙◌, ap, subst, arith}
+use Rattle.std.proofs.Common.{◌≡◌, inl, inr, ⊎_elim, ℕ, ◌+◌, Bool, true, false, IsTrue, List, [], ◌∷◌, length, refl, sym, ◌∙◌, ap, subst, arith}
 use Rattle.std.specs.Prelude.{Option, Some, None, IsSome, bytes_eq, option_map, ◌||◌, ◌&&◌, not, nat_eq, if◌then◌else◌}
 use Rattle.std.proofs.lemmas.Bool.Decides.{nat_tests}
 use Rattle.std.proofs.lemmas.List.{append-nil}
 use Rattle.folder_base.specs.Disk.{Name, Bytes, File, Names, Spots, Disk, Image, MayBe, Leaves, LeavesAny, May, earlier, put, content, firm, lasting_file, begins, synced, renamed, settled}
 use Rattle.folder_base.specs.Story.{Story, Through}
 use Rattle.folder_base.proofs.Images.{same_or_not, same_name, put_here, put_there, put_elim, content_may, none_is}
-use Rattle.folder_base.proofs.Moments.{begun, weaker, joined}
+use Rattle.folder_base.proofs.Moments.{begun}
 use Rattle.keep_store.specs.Promise.{IfStands, promising}
-use Rattle.keep_store.specs.Publish.{IsPublished, IsBeforeOrMoved}
+use Rattle.keep_store.specs.Publish.{IsBeforeOrMoved}
 use Rattle.keep_store.specs.Safe.{reads}
 use Rattle.folder_steps.specs.Follow.{Always, Follows, Thinner, IsLive}
 use Rattle.folder_steps.specs.Make.{IsLoose, Replaced, IsReplaced}
-use Rattle.folder_steps.proofs.ImageLemmas.{ends}
 use Rattle.folder_steps.proofs.NewFileLemmas.{renamed_live, file_of}
 use Rattle.plan_record.specs.Names.{record_of, joined_of, pieces_of, stem_of, begins as begins_with}
-use Rattle.plan_record.specs.Plan.{plan_text}
 use Rattle.plan_record.specs.declared.line.Line.{Line}
-use Rattle.component_store.specs.Component.{Web, known, both, all_bytes, pieces_from, EachSound, PlanSound, IsPlan, HasRecord, ComponentSound, HasPieces}
-use Rattle.component_store.specs.Assemble.{AllComplete, JoinsFrom, is_stem, assembled_names, IsPutTogether, IsAssembled, IsAssembling, IsJoining, IsJoined}
-use Rattle.component_store.proofs.FamilyLemmas.{never, begins_one, joined_self, joined_record, joined_stem, joined_promise, self_record, self_joined, self_stem, self_promise, pieces_stem, pieces_record, pieces_promise, pieces_self}
+use Rattle.component_store.specs.Component.{Web, known, both, all_bytes, pieces_from, EachSound, HasRecord, ComponentSound, HasPieces}
+use Rattle.component_store.specs.Assemble.{JoinsFrom, is_stem, IsPutTogether, IsAssembled, IsAssembling, IsJoining, IsJoined}
+use Rattle.component_store.proofs.FamilyLemmas.{never, begins_one, joined_self, joined_record, joined_stem, joined_promise, self_record, self_stem, self_promise, pieces_stem, pieces_record, pieces_self}
 use Rattle.component_store.proofs.JoinLemmas.{joins_same, stem_begins}
-use Rattle.component_store.proofs.SoundLemmas.{Less, PiecesLess, pieces_less, ReadsLess, less_sound, thin_less}
+use Rattle.component_store.proofs.SoundLemmas.{PiecesLess, pieces_less, less_sound, thin_less}
 
 -- Every image once a file has taken another's place comes of the names as they were.
 pub replaced_images : (spare to : Name) (bytes : Bytes) (old new : Disk) → IsReplaced spare to bytes old new → Always (Follows (Leaves old.live) (Replaced spare to bytes)) new

@@ -1,13 +1,13 @@
 -- What a crash leaves while a component is begun, and what is known of its files then.
-use Rattle.std.proofs.Common.{rules, ◌≡◌, ◌⊎◌, inl, inr, ⊎_elim, Bool, true, false, IsTrue, List, refl, sym, ◌∙◌, ap, subst}
-use Rattle.std.specs.Prelude.{Option, Some, None, bytes_eq, not, ◌&&◌, if◌then◌else◌, option_map, IsSome, is_some, Result, Ok, Err, OnOk, IfOk}
-use Rattle.folder_base.specs.Disk.{Name, Bytes, File, Names, Spots, Disk, Image, May, MayBe, LeavesAny, Leaves, earlier, put, content, lasting_file, begins}
+use Rattle.std.proofs.Common.{◌≡◌, ◌⊎◌, inl, inr, ⊎_elim, Bool, true, false, IsTrue, List, refl, sym, ◌∙◌, ap, subst}
+use Rattle.std.specs.Prelude.{Option, Some, None, bytes_eq, not, if◌then◌else◌, option_map, IsSome, is_some, Result, Ok, Err, OnOk, IfOk}
+use Rattle.folder_base.specs.Disk.{Name, Bytes, File, Names, Spots, Disk, Image, May, MayBe, LeavesAny, Leaves, earlier, put, content, lasting_file}
 use Rattle.folder_base.specs.Story.{Story, Through}
 use Rattle.folder_base.specs.declared.store_fault.StoreFault.{StoreFault}
-use Rattle.folder_base.proofs.Images.{same_or_not, same_name, put_there, none_is}
+use Rattle.folder_base.proofs.Images.{same_name, put_there, none_is}
 use Rattle.folder_base.proofs.Moments.{joined, weaker}
 use Rattle.keep_store.specs.Safe.{reads}
-use Rattle.folder_steps.specs.Follow.{Always, AsRead, IsAsRead, Follows, Thinner, Beside, IsLive}
+use Rattle.folder_steps.specs.Follow.{Always, IsAsRead, Follows, Thinner, IsLive}
 use Rattle.folder_steps.specs.Make.{IsLoose, Replaced, IsReplacing, IsReplaced}
 use Rattle.folder_steps.specs.Reading.{has_bytes}
 use Rattle.folder_steps.proofs.ImageLemmas.{ends}

@@ -1,9 +1,9 @@
 -- What the removal of a component's files leaves.
-use Rattle.std.proofs.Common.{◌≡◌, ◌⊎◌, inl, inr, ⊎_elim, Bool, true, false, IsTrue, refl, sym, ◌∙◌, ap, subst}
-use Rattle.std.specs.Prelude.{Option, Some, None, bytes_eq, not, ◌&&◌, ◌||◌, if◌then◌else◌, Result, Ok, Err, OnOk}
-use Rattle.folder_base.specs.Disk.{Name, File, Names, Disk, Image, May, put, begins}
+use Rattle.std.proofs.Common.{◌≡◌, Bool, true, false, IsTrue, refl, sym, ◌∙◌, ap, subst}
+use Rattle.std.specs.Prelude.{Option, None, bytes_eq, not, ◌&&◌, ◌||◌, if◌then◌else◌}
+use Rattle.folder_base.specs.Disk.{Name, File, Names, May, put, begins}
 use Rattle.folder_base.specs.Story.{Story, Through}
-use Rattle.folder_steps.specs.Follow.{Follows, Thinner, IsLive}
+use Rattle.folder_steps.specs.Follow.{Follows, Thinner}
 use Rattle.folder_steps.proofs.RemovalLemmas.{thin_runs}
 use Rattle.plan_record.specs.Names.{record_of, spare_of, joined_of, pieces_of, begins as begins_with}
 use Rattle.component_store.specs.Tidy.{is_cleared}

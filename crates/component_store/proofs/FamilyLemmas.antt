@@ -1,5 +1,5 @@
 -- The names of a component's family: which differ, and which begin which.
-use Rattle.std.proofs.Common.{◌≡◌, ◌⊎◌, inl, inr, ⊎_elim, ℕ, Bool, true, false, IsTrue, List, [], ◌∷◌, ◌++◌, refl, sym, ◌∙◌, ap, eq-eqb, append_assoc}
+use Rattle.std.proofs.Common.{◌≡◌, ◌⊎◌, inl, inr, ℕ, Bool, true, false, IsTrue, List, [], ◌∷◌, ◌++◌, refl, sym, ◌∙◌, ap, eq-eqb, append_assoc}
 use Rattle.std.specs.Prelude.{◌&&◌, codes, decimal, bytes_eq, nat_eq}
 use Rattle.folder_base.specs.Disk.{Name, begins}
 use Rattle.folder_base.proofs.Images.{same_or_not}

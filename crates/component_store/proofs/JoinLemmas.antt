@@ -1,15 +1,15 @@
 -- The pieces of a component joined, one after another.
-use Rattle.std.proofs.Common.{◌≡◌, ◌⊎◌, inl, inr, ⊎_elim, ℕ, zero, suc, ◌+◌, ◌<◌, ◌≤◌, ◌^◌, Bool, true, false, IsTrue, List, [], ◌∷◌, ◌++◌, length, refl, sym, ◌∙◌, ap, subst, arith, append_assoc}
+use Rattle.std.proofs.Common.{◌≡◌, inl, inr, ⊎_elim, ℕ, zero, suc, ◌+◌, ◌<◌, ◌≤◌, ◌^◌, Bool, true, false, IsTrue, [], ◌++◌, refl, sym, ◌∙◌, ap, subst, arith, append_assoc}
 use Rattle.std.specs.Prelude.{Option, Some, None, IsSome, ◌||◌, bytes_eq, Result, Ok, Err, OnOk, if◌then◌else◌}
 use Rattle.std.proofs.lemmas.List.{append-nil}
-use Rattle.folder_base.specs.Disk.{Name, Bytes, File, Names, Disk, Image, May, put, content, begins}
+use Rattle.folder_base.specs.Disk.{Name, Bytes, File, Names, Disk, May, put, content, begins}
 use Rattle.folder_base.specs.Story.{Story, Through}
 use Rattle.folder_base.specs.declared.store_fault.StoreFault.{StoreFault}
-use Rattle.folder_base.proofs.Images.{same_or_not, same_name, put_there}
+use Rattle.folder_base.proofs.Images.{same_or_not}
 use Rattle.folder_base.proofs.Moments.{weaker}
-use Rattle.folder_steps.specs.Follow.{Follows, Thinner, IsLive}
-use Rattle.folder_steps.specs.Make.{HasNew, IsLoose, KeepsLoose, IsReplacing, Publishes, IsReplaced}
-use Rattle.folder_steps.proofs.NewFileLemmas.{new_beside, new_stands, file_of}
+use Rattle.folder_steps.specs.Follow.{Follows, Thinner}
+use Rattle.folder_steps.specs.Make.{HasNew, IsLoose, KeepsLoose, Publishes, IsReplaced}
+use Rattle.folder_steps.proofs.NewFileLemmas.{new_beside, file_of}
 use Rattle.folder_steps.proofs.RemovalLemmas.{thin_runs}
 use Rattle.plan_record.specs.Names.{joined_of, pieces_of, stem_of, begins as begins_with}
 use Rattle.plan_record.proofs.NameLemmas.{stem_sole}

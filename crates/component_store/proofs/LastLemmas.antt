@@ -1,13 +1,13 @@
 -- The record goes last.
-use Rattle.std.proofs.Common.{◌≡◌, ◌⊎◌, inl, inr, ⊎_elim, Bool, true, false, IsTrue, refl, sym, ◌∙◌, ap, subst}
+use Rattle.std.proofs.Common.{◌≡◌, inl, inr, ⊎_elim, Bool, true, false, IsTrue, refl, sym, ◌∙◌, ap, subst}
 use Rattle.std.specs.Prelude.{Option, Some, None, IsSome, bytes_eq, codes, not, ◌&&◌, ◌||◌, if◌then◌else◌}
 use Rattle.std.proofs.lemmas.Slice.Eq.{bytes_eq-Decides}
-use Rattle.folder_base.specs.Disk.{Name, Bytes, File, Names, Disk, Image, Leaves, May, MayBe, settled}
+use Rattle.folder_base.specs.Disk.{Name, Bytes, File, Disk, Image, Leaves, May, MayBe, settled}
 use Rattle.folder_base.specs.Story.{Story, Through}
 use Rattle.folder_base.proofs.Images.{none_is}
 use Rattle.folder_base.proofs.Moments.{begun, stays, joined, weaker}
-use Rattle.folder_steps.specs.Follow.{Always, Follows, Thinner, Beside, IsLive}
-use Rattle.folder_steps.specs.Make.{Replaced, IsReplacing}
+use Rattle.folder_steps.specs.Follow.{Always, Follows, Thinner}
+use Rattle.folder_steps.specs.Make.{IsReplacing}
 use Rattle.folder_steps.proofs.ImageLemmas.{ends, settled_only}
 use Rattle.plan_record.specs.Names.{record_of, spare_of, joined_of, pieces_of, begins}
 use Rattle.plan_record.proofs.NameLemmas.{tail_eq}

@@ -3,11 +3,11 @@ use Rattle.std.proofs.Common.{◌≡◌, ◌⊎◌, inl, inr, ⊎_elim, ℕ, ◌
 use Rattle.std.specs.Prelude.{Option, Some, None, bytes_eq, not, ◌&&◌, if◌then◌else◌}
 use Rattle.folder_base.specs.Disk.{Name, Bytes, Disk, Image, May}
 use Rattle.folder_base.proofs.Images.{same_name}
-use Rattle.keep_store.specs.Promise.{IfStands, PieceSound, Promises, promising}
+use Rattle.keep_store.specs.Promise.{IfStands, promising}
 use Rattle.folder_steps.specs.Follow.{Always, Follows, Thinner}
-use Rattle.plan_record.specs.Names.{record_of, spare_of, stem_of, is_swept}
+use Rattle.plan_record.specs.Names.{record_of, stem_of, is_swept}
 use Rattle.plan_record.specs.declared.line.Line.{Line}
-use Rattle.component_store.specs.Component.{Web, known, all_bytes, pieces_from, EachSound, PlanSound, ComponentSound}
+use Rattle.component_store.specs.Component.{Web, known, all_bytes, pieces_from, EachSound, ComponentSound}
 use Rattle.component_store.specs.Begin.{Cleared, Started, IsStarting}
 use Rattle.component_store.proofs.FamilyLemmas.{spare_record, spare_self, spare_stem, record_self, record_stem, pieces_stem, spare_promise, record_promise, pieces_promise}
 use Rattle.component_store.proofs.ClearLemmas.{pieces_go, self_goes}

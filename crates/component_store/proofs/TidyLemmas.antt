@@ -1,11 +1,10 @@
 -- What tidying leaves.
-use Rattle.std.proofs.Common.{◌≡◌, ◌⊎◌, inl, inr, Bool, true, false, IsTrue, refl, sym, ◌∙◌, ap, subst}
-use Rattle.std.specs.Prelude.{Option, Some, None, is_some, ◌&&◌, ◌||◌, if◌then◌else◌}
-use Rattle.folder_base.specs.Disk.{Name, File, Names, Disk, Image, May}
+use Rattle.std.proofs.Common.{◌≡◌, Bool, true, false, sym, ◌∙◌, ap, subst}
+use Rattle.std.specs.Prelude.{None, is_some, ◌&&◌, ◌||◌, if◌then◌else◌}
+use Rattle.folder_base.specs.Disk.{Name, Names, Image, May}
 use Rattle.folder_base.specs.Story.{Story, Through}
-use Rattle.folder_base.proofs.Moments.{begun, weaker}
-use Rattle.folder_steps.specs.Follow.{Follows, Thinner, IsLive}
-use Rattle.folder_steps.proofs.RemovalLemmas.{thin_more, unchanged}
+use Rattle.folder_steps.specs.Follow.{Follows, Thinner}
+use Rattle.folder_steps.proofs.RemovalLemmas.{thin_more}
 use Rattle.plan_record.specs.Names.{record_of}
 use Rattle.component_store.specs.Tidy.{is_cleared, is_tidied}
 

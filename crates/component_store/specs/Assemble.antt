@@ -1,5 +1,5 @@
 -- What a crash leaves while a component is joined from its pieces, and what it is then.
-use Rattle.std.specs.Prelude.{◌≡◌, ◌⊎◌, ℕ, zero, suc, ◌+◌, ◌<◌, Bool, false, ◌||◌, ◌&&◌, not, nat_eq, List, [], ◌++◌, Option, Some, None, IsSome, bytes_eq, if◌then◌else◌}
+use Rattle.std.specs.Prelude.{◌≡◌, ◌⊎◌, ℕ, zero, suc, ◌+◌, ◌<◌, Bool, false, ◌||◌, ◌&&◌, not, nat_eq, [], ◌++◌, Some, None, IsSome, bytes_eq, if◌then◌else◌}
 use Rattle.folder_base.specs.Disk.{Name, Bytes, File, Names, Disk, Image, Leaves, May, begins, content, lasting_file}
 use Rattle.folder_base.specs.Story.{Story, Through}
 use Rattle.folder_steps.specs.Follow.{Follows, Thinner, IsLive}

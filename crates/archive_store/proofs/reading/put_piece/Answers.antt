@@ -1,5 +1,4 @@
-use Rattle.std.proofs.Common.{◌≡◌, ◌∙◌, ap, sym, Bool}
-use Rattle.std.specs.Prelude.{◌||◌}
+use Rattle.std.proofs.Common.{◌∙◌, sym}
 use Rattle.std.specs.BTreeSet.{contains_text}
 use Rattle.archive_store.proofs.LineLemmas.{is_trimmed, no_line, put_its_line}
 use Rattle.archive_store.proofs.reading.put_piece.Goals as goal

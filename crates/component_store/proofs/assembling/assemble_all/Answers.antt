@@ -1,14 +1,12 @@
-use Rattle.std.proofs.Common.{◌≡◌, ◌∙◌, ap, sym, subst, refl, inl, inr, ℕ, arith, false}
-use Rattle.std.specs.Prelude.{string_bytes, IsSome, OnOk, None, nat_eq, bytes_eq, Option}
+use Rattle.std.proofs.Common.{◌∙◌, ap, inr}
+use Rattle.std.specs.Prelude.{string_bytes, None}
 use Rattle.std.proofs.lemmas.Result.{on_ok_weaker}
-use Rattle.folder_base.specs.Disk.{Name, Disk, Image, File, May, put}
-use Rattle.folder_base.specs.Story.{Story, Through}
+use Rattle.folder_base.specs.Disk.{Name, Disk}
 use Rattle.folder_base.proofs.Images.{put_here, put_there}
 use Rattle.folder_base.proofs.Moments.{weaker, joined}
-use Rattle.folder_steps.specs.Follow.{Follows, Thinner, IsLive}
 use Rattle.folder_steps.proofs.ImageLemmas.{ends, settled_only}
 use Rattle.plan_record.specs.Names.{joined_of, stem_of}
-use Rattle.component_store.proofs.FamilyLemmas.{joined_stem, self_stem}
+use Rattle.component_store.proofs.FamilyLemmas.{joined_stem}
 use Rattle.component_store.proofs.JoinLemmas.{complete_same}
 use Rattle.component_store.proofs.BeginLemmas.{ok_anyway}
 use Rattle.component_store.proofs.AssembleLemmas.{as_before, dropping_joined, joining_before, joined_all, assembled_thin, all_names, not_one, stems_left, joined_dropped, joined_thin}

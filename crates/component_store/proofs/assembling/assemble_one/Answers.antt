@@ -1,8 +1,8 @@
-use Rattle.std.proofs.Common.{◌≡◌, ◌∙◌, ap, sym, subst, refl, inl, inr, ℕ, arith, IsTrue}
+use Rattle.std.proofs.Common.{◌≡◌, ◌∙◌, ap, sym, subst, refl, inl, ℕ, arith, IsTrue}
 use Rattle.std.specs.Prelude.{string_bytes, IsSome, OnOk}
-use Rattle.std.proofs.lemmas.Result.{on_ok_weaker, MatchResult-weaker}
-use Rattle.folder_base.specs.Disk.{Name, Disk, Image, May, Names, synced, renamed, settled as settled_disk}
-use Rattle.folder_base.specs.Story.{Story, Through, World}
+use Rattle.std.proofs.lemmas.Result.{on_ok_weaker}
+use Rattle.folder_base.specs.Disk.{Name, Disk, Names, synced, renamed, settled as settled_disk}
+use Rattle.folder_base.specs.Story.{Through}
 use Rattle.folder_base.proofs.Moments.{weaker, joined}
 use Rattle.folder_steps.specs.Follow.{Always}
 use Rattle.folder_steps.proofs.ImageLemmas.{ends, settled_only}

@@ -1,4 +1,4 @@
-use Rattle.std.proofs.Common.{◌≡◌, ◌∙◌, ap, sym, Bool}
+use Rattle.std.proofs.Common.{◌∙◌, ap, sym, Bool}
 use Rattle.std.specs.Prelude.{string_bytes, not, ◌&&◌}
 use Rattle.keep_store.specs.Safe.{reads}
 use Rattle.folder_steps.specs.Reading.{has_bytes}

@@ -1,7 +1,6 @@
 use Rattle.std.proofs.Common.{◌≡◌, ◌∙◌, ap, refl}
-use Rattle.std.specs.Prelude.{string_bytes, Bool, bytes_eq}
+use Rattle.std.specs.Prelude.{string_bytes, bytes_eq}
 use Rattle.std.proofs.lemmas.Result.{IfOk-weaker}
-use Rattle.folder_base.specs.Disk.{Disk}
 use Rattle.folder_base.specs.Story.{Story}
 use Rattle.folder_base.proofs.Moments.{stays}
 use Rattle.keep_store.specs.Safe.{reads}

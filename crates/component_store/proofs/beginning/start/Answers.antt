@@ -1,6 +1,6 @@
-use Rattle.std.proofs.Common.{◌≡◌, ◌∙◌, ap, sym, subst, refl, inl, inr, Bool, false}
+use Rattle.std.proofs.Common.{◌∙◌, ap, Bool, false}
 use Rattle.std.specs.Prelude.{string_bytes, None, if◌then◌else◌}
-use Rattle.folder_base.specs.Disk.{Name, Disk, Image, May}
+use Rattle.folder_base.specs.Disk.{Disk}
 use Rattle.folder_base.proofs.Moments.{joined, weaker}
 use Rattle.folder_steps.proofs.ImageLemmas.{ends, settled_only}
 use Rattle.component_store.proofs.BeginLemmas.{begun_step, clear_only, begun_done}

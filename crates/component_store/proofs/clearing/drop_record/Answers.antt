@@ -1,4 +1,4 @@
-use Rattle.std.proofs.Common.{◌≡◌, ◌∙◌, ap, sym, refl, inl, Bool}
+use Rattle.std.proofs.Common.{◌∙◌, ap, sym, inl, Bool}
 use Rattle.std.specs.Prelude.{None, bytes_eq, not, ◌&&◌, if◌then◌else◌}
 use Rattle.folder_base.specs.Disk.{Disk}
 use Rattle.folder_base.proofs.Moments.{begun, joined, weaker}

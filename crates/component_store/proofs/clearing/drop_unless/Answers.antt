@@ -1,4 +1,4 @@
-use Rattle.std.proofs.Common.{◌≡◌, ◌∙◌, ap, refl, Bool}
+use Rattle.std.proofs.Common.{◌∙◌, ap, refl, Bool}
 use Rattle.std.specs.Prelude.{bytes_eq, not, ◌&&◌}
 use Rattle.folder_steps.proofs.RemovalLemmas.{thin_runs, unchanged}
 use Rattle.component_store.proofs.clearing.drop_unless.Goals as goal

@@ -1,5 +1,5 @@
 use Rattle.std.proofs.Common.{◌≡◌, ◌∙◌, ap, sym, subst, refl, arith, ◌+◌, ◌≤◌, length, ℕ, suc}
-use Rattle.std.specs.Prelude.{string_bytes, IsSome, Option}
+use Rattle.std.specs.Prelude.{string_bytes, IsSome}
 use Rattle.std.specs.String.{string_capacity}
 use Rattle.folder_base.specs.Disk.{Name, begins}
 use Rattle.keep_store.specs.TookLaws.{stays_both, stays_none}

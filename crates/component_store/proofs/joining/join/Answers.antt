@@ -1,9 +1,9 @@
-use Rattle.std.proofs.Common.{◌≡◌, ◌∙◌, ap, sym, subst, inl, [], false}
-use Rattle.std.specs.Prelude.{string_bytes, None, IsSome}
-use Rattle.folder_base.specs.Disk.{Name, Disk, Image}
-use Rattle.folder_base.specs.Story.{Story, Through}
+use Rattle.std.proofs.Common.{◌∙◌, ap, sym, subst, inl, []}
+use Rattle.std.specs.Prelude.{string_bytes, IsSome}
+use Rattle.folder_base.specs.Disk.{Name}
+use Rattle.folder_base.specs.Story.{Through}
 use Rattle.folder_base.proofs.Moments.{weaker}
-use Rattle.folder_steps.specs.Make.{HasNew, IsLoose}
+use Rattle.folder_steps.specs.Make.{IsLoose}
 use Rattle.folder_steps.proofs.NewFileLemmas.{new_stands, new_beside}
 use Rattle.plan_record.specs.Names.{joined_of, stem_of}
 use Rattle.component_store.proofs.FamilyLemmas.{joined_stem}

@@ -1,9 +1,9 @@
-use Rattle.std.proofs.Common.{◌≡◌, ◌∙◌, ap, sym, subst, refl, arith, List, ℕ, false, ◌+◌, ◌≤◌, length}
-use Rattle.std.specs.Prelude.{string_bytes, IsSome, Option, bytes_eq}
+use Rattle.std.proofs.Common.{◌∙◌, ap, sym, subst, arith, ◌+◌, ◌≤◌, length}
+use Rattle.std.specs.Prelude.{string_bytes, IsSome, bytes_eq}
 use Rattle.std.specs.String.{string_capacity}
-use Rattle.folder_base.specs.Disk.{Name, File}
+use Rattle.folder_base.specs.Disk.{Name}
 use Rattle.keep_store.specs.TookLaws.{stays_both, stays_none}
-use Rattle.plan_record.specs.Names.{joined_of, stem_of}
+use Rattle.plan_record.specs.Names.{stem_of}
 use Rattle.component_store.proofs.FamilyLemmas.{joined_stem}
 use Rattle.component_store.proofs.JoinLemmas.{begun_joined, poured_next, pours_on, complete_same}
 use Rattle.std.proofs.lemmas.Result.{err_from_is_err_and}

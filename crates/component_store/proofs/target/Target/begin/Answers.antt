@@ -1,14 +1,13 @@
-use Rattle.std.proofs.Common.{◌≡◌, ◌∙◌, ap, sym, subst, refl, inl, inr, true, false, Bool, IsTrue}
-use Rattle.std.specs.Prelude.{string_bytes, is_some, IsSome, Some, None, Option, OnOk, bytes_eq, if◌then◌else◌}
+use Rattle.std.proofs.Common.{◌≡◌, ◌∙◌, ap, sym, inl, true, false, Bool}
+use Rattle.std.specs.Prelude.{string_bytes, is_some, None, Option, bytes_eq}
 use Rattle.std.proofs.lemmas.Result.{IfOk-weaker}
-use Rattle.folder_base.specs.Disk.{Name, Bytes, Disk, File, Image, put}
+use Rattle.folder_base.specs.Disk.{File}
 use Rattle.folder_base.specs.Story.{Story}
 use Rattle.folder_base.proofs.Images.{put_there}
 use Rattle.folder_base.proofs.Moments.{weaker, stays, joined}
 use Rattle.folder_steps.proofs.ImageLemmas.{ends}
 use Rattle.plan_record.specs.Names.{spare_of}
-use Rattle.component_store.specs.Begin.{goes_on, begun_as, begun_names, InAll}
-use Rattle.component_store.specs.declared.begun.Begun.{Begun}
+use Rattle.component_store.specs.Begin.{goes_on, begun_as, begun_names}
 use Rattle.component_store.proofs.FamilyLemmas.{spare_self, spare_record}
 use Rattle.component_store.proofs.SoundLemmas.{thin_sound, starting_sound}
 use Rattle.component_store.proofs.BeginLemmas.{beginning_anew, starting_after, started_names, goes_on_all, goes_by_record, anew_in_all, ok_anyway}

@@ -1,13 +1,12 @@
-use Rattle.std.proofs.Common.{◌≡◌, ◌∙◌, ap, sym, subst, refl, true, false, Bool}
-use Rattle.std.specs.Prelude.{string_bytes, is_some, OnOk, Some, None, ◌&&◌, ◌||◌, if◌then◌else◌}
+use Rattle.std.proofs.Common.{◌∙◌, ap, sym, subst, false, Bool}
+use Rattle.std.specs.Prelude.{string_bytes, is_some, None, ◌&&◌, ◌||◌, if◌then◌else◌}
 use Rattle.std.proofs.lemmas.Result.{on_ok_weaker}
-use Rattle.folder_base.specs.Disk.{Name, Names, Image, Disk, May}
+use Rattle.folder_base.specs.Disk.{Name, May}
 use Rattle.folder_base.specs.Story.{Story}
 use Rattle.folder_base.proofs.Moments.{weaker}
 use Rattle.folder_steps.specs.Follow.{Follows, Thinner}
 use Rattle.folder_steps.proofs.RemovalLemmas.{unchanged}
-use Rattle.plan_record.specs.Names.{record_of}
-use Rattle.component_store.specs.Tidy.{is_tidied, is_cleared}
+use Rattle.component_store.specs.Tidy.{is_cleared}
 use Rattle.component_store.proofs.SoundLemmas.{thin_sound}
 use Rattle.component_store.proofs.TidyLemmas.{none_names, cleared_names, cleared_thin, thin_from}
 use Rattle.component_store.proofs.LastLemmas.{under_same, under_from}
