@@ -3,24 +3,19 @@ ghost use Rattle.archive_store.specs.Lines.{is_line};
 ghost use Rattle.folder_base.specs.Memory.{world_of};
 ghost use Rattle.folder_base.specs.Story.{IsWhole};
 
+use crate::components::folder_with;
 use archive_store::*;
-use folder_base::{File, Folder, FolderMem};
+use folder_base::{Folder, FolderMem};
 use std::alloc::Global;
 use std::process::Abort;
 use std::test::Fail;
-use text_base::Text;
 
 // A folder in which the archive `a` has these bytes, and a write of earlier was stopped.
 fn folder_of(alloc: Global, bytes: &[u8], stop: Option<u64>) -> Result<FolderMem, Fail>
     ensures { IfOk result (λ folder. IsWhole (world_of folder)) }
 {
-    let mut files = Vec::new(alloc);
-    for (name, bytes) in [("a", bytes), ("a.new", b"a b\nh")] {
-        let name = Text::new(alloc, name)?;
-        let bytes = Vec::from_slice(alloc, bytes)?;
-        files.push(File { name, bytes })?;
-    }
-    Ok(FolderMem::new(alloc, files, Vec::new(alloc), stop)?)
+    let files: [(&str, &[u8]); 2] = [("a", bytes), ("a.new", b"a b\nh")];
+    folder_with(alloc, &files, stop)
 }
 
 fn holds(rt: &impl Abort, folder: &mut FolderMem, name: &str, wanted: &str) -> Result<(), Fail>
@@ -28,7 +23,7 @@ fn holds(rt: &impl Abort, folder: &mut FolderMem, name: &str, wanted: &str) -> R
 {
     let mut buf = [0; 32];
     let count = folder.read_at(name, 0, &mut buf)?;
-    assert_eq!(rt; std::str::from_utf8(&buf[..count.min(32)])?, wanted);
+    assert_eq!(rt; &buf[..count.min(32)], wanted.as_bytes());
     Ok(())
 }
 

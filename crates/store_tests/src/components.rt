@@ -1,9 +1,11 @@
-ghost use Rattle.std.specs.Prelude.{IfOk};
+ghost use Rattle.std.specs.Prelude.{◌≡◌, IfOk, codes};
+ghost use Rattle.component_store.specs.Target.{component_of};
 ghost use Rattle.folder_base.specs.Memory.{world_of};
 ghost use Rattle.folder_base.specs.Story.{IsWhole};
 
 use component_store::*;
-use folder_base::{File, Folder, FolderMem};
+use folder_base::{File, Folder, FolderMem, StoreFault};
+use folder_steps::is_there;
 use std::alloc::Global;
 use std::test::Fail;
 use text_base::Text;
@@ -12,7 +14,12 @@ const PLAN: &str = "ytdl-plan 1\n1\nu http://h/22\n";
 
 const TWO: &str = "ytdl-plan 1\n2\nu http://h/0\nx\n";
 
-fn folder_of(alloc: Global, files: &[(&str, &[u8])], stop: Option<u64>) -> Result<FolderMem, Fail>
+/// A folder with these files, stopped at a call where one is given.
+pub fn folder_with(
+    alloc: Global,
+    files: &[(&str, &[u8])],
+    stop: Option<u64>,
+) -> Result<FolderMem, Fail>
     ensures { IfOk result (λ folder. IsWhole (world_of folder)) }
 {
     let mut made = Vec::new(alloc);
@@ -49,7 +56,7 @@ fn begun_beside(
 ) -> Result<(Begun, FolderMem), Fail>
     ensures { IfOk result (λ pair. IsWhole (world_of pair.1)) }
 {
-    let mut folder = folder_of(
+    let mut folder = folder_with(
         alloc,
         &[
             ("v", b"whole"),
@@ -136,7 +143,7 @@ fn a_record_of_many_lines_is_another_plans(rt: HostRuntime) -> Result<(), Fail> 
 fn tidied_beside(alloc: Global, name: &str, is_final: bool, keep: bool) -> Result<FolderMem, Fail>
     ensures { IfOk result (λ folder. IsWhole (world_of folder)) }
 {
-    let mut folder = folder_of(
+    let mut folder = folder_with(
         alloc,
         &[
             ("v", b"whole"),
@@ -175,6 +182,33 @@ fn a_component_is_tidied_where_its_record_stands(rt: HostRuntime) -> Result<(), 
     Ok(())
 }
 
+// Puts a component of two pieces together, where both are complete.
+fn assemble_two(alloc: Global, folder: &mut FolderMem, target: &Target) -> Result<(), StoreFault>
+    requires whole { IsWhole (world_of folder.old) }
+    requires named { component_of target.now ≡ codes "v" }
+    requires two { target.now.count ≡ 2 }
+    ensures { IsWhole (world_of folder.new) }
+{
+    if is_there(folder, "v.part-Frag0")? && is_there(folder, "v.part-Frag1")? {
+        target.assemble(alloc, folder)?;
+    }
+    Ok(())
+}
+
+// A component of two pieces, begun under its record, put together and tidied.
+fn run_two(alloc: Global, folder: &mut FolderMem) -> Result<(), StoreFault>
+    requires { IsWhole (world_of folder.old) }
+    ensures { IsWhole (world_of folder.new) }
+{
+    let Ok(target) = Target::new(alloc, "v", 2, true) else {
+        return Err(StoreFault::OutOfMemory);
+    };
+    if target.begin(alloc, folder, TWO, false)? == Begun::Open {
+        assemble_two(alloc, folder, &target)?;
+    }
+    target.tidy(alloc, folder, false)
+}
+
 // A folder with a record of two pieces, and both of them.
 fn two_pieces(alloc: Global, stop: Option<u64>) -> Result<FolderMem, Fail>
     ensures { IfOk result (λ folder. IsWhole (world_of folder)) }
@@ -185,7 +219,36 @@ fn two_pieces(alloc: Global, stop: Option<u64>) -> Result<FolderMem, Fail>
         ("v.part-Frag0", b"abc"),
         ("v.part-Frag1", b"de"),
     ];
-    folder_of(alloc, &files, stop)
+    folder_with(alloc, &files, stop)
+}
+
+// The same, stopped, and run again over what was left.
+fn two_after_stop(alloc: Global, stop: u64, kept: u64, fill: u8) -> Result<FolderMem, Fail>
+    ensures { IfOk result (λ folder. IsWhole (world_of folder)) }
+{
+    let mut folder = two_pieces(alloc, Some(stop))?;
+    let _ = run_two(alloc, &mut folder).is_ok();
+    let mut left = folder.after_stop(alloc, kept, fill)?;
+    run_two(alloc, &mut left)?;
+    Ok(left)
+}
+
+#[test]
+fn a_component_is_put_together_after_a_stop_at_each_call(rt: HostRuntime) -> Result<(), Fail> {
+    let alloc = rt.alloc();
+    for stop in 0..32 {
+        for kept in 0..3 {
+            for fill in [0, 255] {
+                let mut folder = two_after_stop(alloc, stop, kept, fill)?;
+                assert_eq!(rt;
+                    listed(alloc, &mut folder)?.as_str(),
+                    "v=abcde ",
+                    "stop {stop}, kept {kept}"
+                );
+            }
+        }
+    }
+    Ok(())
 }
 
 // A component is begun beside another plan's record, stopped, and begun again over what was left.
