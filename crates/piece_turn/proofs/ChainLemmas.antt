@@ -25,7 +25,7 @@ use Rattle.keep_store.specs.TookLaws.{took_none, took_both}
 use Rattle.piece_turn.specs.Lane.{IsAsOpened, IsSamePiece}
 use Rattle.piece_turn.specs.Try.{Try, answer, answer_of, calls_for_another, is_retried, unless_folder, is_url_fault, Asks, AreTruthful}
 use Rattle.piece_turn.specs.Step.{At, EndsTry, Tried}
-use Rattle.piece_turn.specs.Turn.{StartFrom, NextBehind, EachBehind, KnowInTurn, failed_calls, StaysDialer}
+use Rattle.piece_turn.specs.Turn.{StartFrom, BeginsAt, NextBehind, EachBehind, KnowInTurn, failed_calls, StaysDialer}
 use Rattle.piece_turn.proofs.LaneLemmas.{same_none, same_both, same_took, same_finished, has_size}
 
 -- the tries, each from what the one before left
@@ -169,6 +169,11 @@ pub starts_all : (piece : Piece) (tries : List Try) (old new : At) → AllTried 
 starts_all piece [] old new same = tt
 starts_all piece (t ∷ tries) old new all =
     (omega (arith, all.1.from), start_later t.from all.0.lane.promised tries (omega (arith, all.1.from, (tried_same all.1).later)) (starts_all piece tries all.0 new all.2))
+
+-- The first asks from exactly the promise.
+pub first_from : (piece : Piece) (tries : List Try) (old new : At) → AllTried piece tries old new → BeginsAt old.lane.promised tries
+first_from piece [] old new same = tt
+first_from piece (t ∷ tries) old new all = all.1.from
 
 -- Where no call failed, all that the reply to a try gave is promised as the next begins.
 reached : {piece : Piece} {t : Try} {old new : At} (tried : Tried piece t old new) → CallsOn t → IsAsOpened old.lane → IsTrue new.wire.tells → IsTrue new.lane.world.tells → (had : Bytes) → Has old.lane had

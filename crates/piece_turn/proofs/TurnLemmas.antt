@@ -27,7 +27,7 @@ use Rattle.piece_turn.specs.Try.{Try, answer, answer_of, calls_for_another, is_r
 use Rattle.piece_turn.specs.Step.{At, EndsTry, Tried}
 use Rattle.piece_turn.specs.Turn.{end_of, is_done, Ends, KnowInTurn, TakesTurn}
 use Rattle.piece_turn.proofs.LaneLemmas.{took_sound, took_through, finished_through, has_size, complete_stands, same_none, took_no_less, finished_no_less, since_took}
-use Rattle.piece_turn.proofs.ChainLemmas.{AllTried, CallsOn, tried_more, store_ends, Passed, passed_one, passed_all, ended_same, dialer_all, tell_all, addressed, starts_all, each_behind, same_all, IsTruthfulTry, truth_all}
+use Rattle.piece_turn.proofs.ChainLemmas.{AllTried, CallsOn, tried_more, store_ends, Passed, passed_one, passed_all, ended_same, dialer_all, tell_all, addressed, starts_all, first_from, each_behind, same_all, IsTruthfulTry, truth_all}
 
 -- ---- how a try ended
 
@@ -275,6 +275,7 @@ module _ (piece : Piece) (earlier : List Try) (last : Try) (old mid new : At) (b
         (record { earlier = earlier; last = last; tries_are = refl; retried = calls; few = few; end_is = refl; all_used = used });
     done = ended_done ends.mid new.lane (length earlier + 1) last.gave last.kept ends.ended left_part;
     starts = starts_all piece (earlier ++ last ∷ []) old new all_tried;
+    first = first_from piece (earlier ++ last ∷ []) old new all_tried;
     address_is = addressed piece (earlier ++ last ∷ []) old new all_tried;
     dialer = dialer_all piece (earlier ++ last ∷ []) old new all_tried;
     tell = λ wt.
@@ -337,6 +338,7 @@ complete_turn piece retries lane wire opened complete = record {
   ends = subst (λ (c : Bool). Ends retries c [] (Done 0)) (sym complete) (refl, refl);
   done = sym complete;
   starts = tt;
+  first = tt;
   address_is = All-nil (λ (t : Try). OfAddress (address piece.url) t.gave);
   dialer = dialer_all piece [] (at_rest lane wire) (at_rest lane wire) refl;
   tell = λ wt. record { world = refl; dials = sym (append-nil wire.dials); talks = sym (append-nil wire.talks); paired = λ h. h; asked = All-nil (Asks piece); knows = tt };

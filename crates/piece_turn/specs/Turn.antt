@@ -55,6 +55,11 @@ abbrev pub StartFrom : ℕ → List Try → Type 0
 StartFrom promised [] = Unit {0}
 StartFrom promised (t ∷ tries) = (promised ≤ t.from) × StartFrom t.from tries
 
+-- the first of them asks from exactly there
+abbrev pub BeginsAt : ℕ → List Try → Type 0
+BeginsAt promised [] = Unit {0}
+BeginsAt promised (t ∷ tries) = t.from ≡ promised
+
 -- the try asks from behind all that the reply to the one before gave, where no call failed there: no byte that came is asked for again
 abbrev pub AsksBehind : Try → Try → Type 0
 AsksBehind before t = (talk : Talk) (verdict : Verdict) → before.talks ≡ talk ∷ [] → IsVerdict before.from before.known talk.reply verdict
@@ -105,6 +110,7 @@ pub record TakesTurn (piece : Piece) (retries : ℕ) (old new : Seen) (end : Pie
   pub ends : Ends retries old.complete tries end
   pub done : is_done end ≡ new.complete
   pub starts : StartFrom old.promised tries
+  pub first : BeginsAt old.promised tries
   pub address_is : All (λ (t : Try). OfAddress (address piece.url) t.gave) tries
   pub dialer : StaysDialer tries d e
   pub tell : IsTrue e.tells → Tell piece tries d e

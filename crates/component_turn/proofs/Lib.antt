@@ -1,0 +1,16 @@
+pub mod JudgeLemmas
+pub mod StemLemmas
+pub mod LaneLemmas
+pub mod TriedLemmas
+pub mod BackLemmas
+pub mod CrewLemmas
+pub mod TurnLemmas
+pub mod MakeLemmas
+pub mod FoldLemmas
+pub mod FetchLemmas
+pub mod UnderwayLemmas
+pub mod EnterLemmas
+pub mod HeldLemmas
+pub mod EndLemmas
+pub mod PartLemmas
+pub mod StepLemmas

@@ -1,0 +1,7 @@
+pub mod Component
+pub mod Crew
+pub mod Judge
+pub mod Lanes
+pub mod Pieces
+pub mod Plan
+pub mod Turned
