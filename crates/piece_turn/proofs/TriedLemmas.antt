@@ -138,7 +138,11 @@ module _ {T : Type 0} (seen : T → Seen) (piece : Piece) (d e : Wire) (from : �
         talks = nothing.talks ∙ sym (append-nil d.talks);
         paired = paired;
         asked = subst (λ (a : Result Address PieceFault). AsksAt a piece.headers.items (the_try [] [])) (sym leads) (refl, refl);
-        knows = inl same;
+        knows = record {
+          unasked = λ e. same;
+          judged = λ j talk verdict one is. absurd (let x : ◌≡◌ {A = List Talk} [] (talk ∷ []) = one in cc);
+          asked = λ talk verdict one is. absurd (let x : ◌≡◌ {A = List Talk} [] (talk ∷ []) = one in cc);
+        };
       };
       truth = λ all had truthful len first. gave_none seen may all had first known t known' u gave (⊎_elim no_ok no_ok why) none;
       judged = λ j talk verdict one is. absurd (let x : ◌≡◌ {A = List Talk} [] (talk ∷ []) = one in cc);
@@ -169,7 +173,11 @@ module _ {T : Type 0} (seen : T → Seen) (piece : Piece) (d e : Wire) (from : �
             paired = paired;
             asked = subst (λ (a : Result Address PieceFault). AsksAt a piece.headers.items (the_try places [])) (sym leads)
                 (inr (record { talks = refl; dials = which; why = (why gave tries).0 }));
-            knows = inl (why gave tries).2;
+            knows = record {
+              unasked = λ e. (why gave tries).2;
+              judged = λ j talk verdict one is. absurd (let x : ◌≡◌ {A = List Talk} [] (talk ∷ []) = one in cc);
+              asked = λ talk verdict one is. absurd (let x : ◌≡◌ {A = List Talk} [] (talk ∷ []) = one in cc);
+            };
           };
           truth = λ all had truthful len first. gave_truth seen may all had first known t known' u [] gave (λ reply others e. absurd (cc))
               (subst (λ (n : ℕ). Tries took may n known [] gave t known' u) (sym len) tries);
@@ -196,7 +204,13 @@ module _ {T : Type 0} (seen : T → Seen) (piece : Piece) (d e : Wire) (from : �
               request_is = refl;
               judged = λ j. let a = answers reply [] tries j in (a.0, a.1, a.2);
             }));
-        knows = inr (the_talk to reply, refl, λ verdict is. learnt reply [] tries verdict is);
+        knows = record {
+          unasked = λ e. absurd (let x : ◌≡◌ {A = List Talk} (the_talk to reply ∷ []) [] = e in cc);
+          judged = λ j talk verdict one is.
+              let a = answers reply [] tries j in
+              a.4 ∙ ap (λ (v : Verdict). option_or known v.told) (verdict_unique from known reply a.0 verdict a.1 (mine talk verdict one is));
+          asked = λ talk verdict one is. learnt reply [] tries verdict (mine talk verdict one is);
+        };
       };
       truth = λ all had truthful len first. gave_truth seen may all had first known t known' u (reply ∷ []) gave
           (λ other others e. let same : reply ≡ other = cc in
@@ -204,14 +218,16 @@ module _ {T : Type 0} (seen : T → Seen) (piece : Piece) (d e : Wire) (from : �
           (subst (λ (n : ℕ). Tries took may n known (reply ∷ []) gave t known' u) (sym len) tries);
       judged = λ j talk verdict one is.
           let a = answers reply [] tries j in
-          let same : the_talk to reply ≡ talk = cc in
-          let mine : IsVerdict from known reply verdict = subst (λ (r : List ℕ). IsVerdict from known r verdict) (sym (ap (λ (k : Talk). k.reply) same)) is in
-          subst (λ (v : Verdict). Took (seen t) v.bytes (seen u)) (verdict_unique from known reply a.0 verdict a.1 mine) a.3;
+          subst (λ (v : Verdict). Took (seen t) v.bytes (seen u)) (verdict_unique from known reply a.0 verdict a.1 (mine talk verdict one is)) a.3;
       cut = λ got told e.
           let a = answers reply [] tries (subst (λ (r : Result Fetched PieceFault). IsTrue (is_judged r)) (sym e) refl) in
           (a.0.bytes, a.3, cut_place from known reply a.0 a.1 got told (a.2 ∙ ap as_end e));
     },
   )
+    where
+      -- the verdict on the one reply that was asked for
+      mine : (talk : Talk) (verdict : Verdict) → ◌≡◌ {A = List Talk} (the_talk to reply ∷ []) (talk ∷ []) → IsVerdict from known talk.reply verdict → IsVerdict from known reply verdict
+      mine talk verdict one is = let same : the_talk to reply ≡ talk = cc in subst (λ (r : List ℕ). IsVerdict from known r verdict) (sym (ap (λ (k : Talk). k.reply) same)) is
   told_asked paired to leads (reply ∷ other ∷ others) asks tries dials =
       absurd (⊎_elim (λ none. let x : reply ∷ other ∷ others ≡ [] = none in cc) (λ one. let x : reply ∷ other ∷ others ≡ one.0 ∷ [] = one.1 in cc) asks.once)
 

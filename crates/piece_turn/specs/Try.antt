@@ -95,10 +95,12 @@ AsksAt (Ok to) headers t = AskedOnce to headers t ⊎ AskedNothing to t
 abbrev pub Asks : Piece → Try → Type 0
 Asks piece t = AsksAt (address piece.url) piece.headers.items t
 
--- what is known after a try: what was known before, or the total that the verdict on a reply of it told, if none was known
-abbrev pub Knows : Try → Option ℕ → Type 0
-Knows t known = (known ≡ t.known) ⊎ ((talk : Talk) × (t.talks ≡ talk ∷ []) × ((verdict : Verdict) → IsVerdict t.from t.known talk.reply verdict
-    → (known ≡ t.known) ⊎ (known ≡ option_or t.known verdict.told)))
+-- What is known after a try: where nothing was asked, what was known before; where no call failed, that, or the total that the verdict on its reply told, if none was
+-- known; where a call failed behind the request, one or the other.
+pub record Knows (t : Try) (known : Option ℕ) : Type 0 where
+  pub unasked : t.talks ≡ [] → known ≡ t.known
+  pub judged : IsTrue (is_judged t.gave) → (talk : Talk) (verdict : Verdict) → t.talks ≡ talk ∷ [] → IsVerdict t.from t.known talk.reply verdict → known ≡ option_or t.known verdict.told
+  pub asked : (talk : Talk) (verdict : Verdict) → t.talks ≡ talk ∷ [] → IsVerdict t.from t.known talk.reply verdict → (known ≡ t.known) ⊎ (known ≡ option_or t.known verdict.told)
 
 -- The replies of these tries are truthful of these bytes.
 abbrev pub AreTruthful : Option Bytes → List Try → Type 0
