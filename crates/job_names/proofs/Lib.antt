@@ -1,0 +1,5 @@
+pub mod FamilyLemmas
+pub mod IndexLemmas
+pub mod MapLemmas
+pub mod NamingLemmas
+pub mod OutputLemmas

@@ -1,0 +1,4 @@
+pub mod Text
+pub mod Naming
+pub mod Family
+pub mod Index
