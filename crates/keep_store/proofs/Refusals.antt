@@ -1,16 +1,17 @@
 -- The fault of a call of the folder names that call.
-use Rattle.std.proofs.Common.{◌≡◌, ◌⊎◌, inl, inr, ⊎_elim, ℕ, IsTrue, length, take, refl, sym, ap, subst, arith}
-use Rattle.std.specs.Prelude.{Option, Some, None, IsSome, Result, Err, IsErr, IsErrOf, is_err, option_map}
+use Rattle.std.proofs.Common.{◌≡◌, ◌⊎◌, inl, inr, ⊎_elim, ℕ, IsTrue, length, take, refl, sym, ◌∙◌, ap, subst, arith}
+use Rattle.std.specs.Prelude.{Option, Some, None, IsSome, Result, Ok, Err, IsErr, IsErrOf, is_err, option_map}
 use Rattle.text_base.specs.declared.faults.FolderFault.{FolderFault}
 use Rattle.text_base.specs.declared.faults.FolderFault.TheVariants.{Failed, OutOfMemory}
 use Rattle.text_base.specs.declared.faults.FolderCall.{FolderCall}
 use Rattle.text_base.specs.declared.faults.FolderCall.TheVariants.{Append}
 use Rattle.folder_base.specs.Disk.{Name, Bytes, File, Disk, put, firm, appended, synced}
 use Rattle.folder_base.specs.Story.{World, Asks, Causes, Same, Reads, Does, DoesSome}
-use Rattle.folder_base.specs.declared.store_fault.StoreFault.TheVariants.{Folder}
+use Rattle.folder_base.specs.declared.store_fault.StoreFault.{StoreFault}
+use Rattle.folder_base.specs.declared.store_fault.StoreFault.TheVariants.{Folder, OutOfMemory as NoMemory}
 use Rattle.folder_base.proofs.Images.{put_here}
 use Rattle.keep_store.specs.Lane.{IsRefusal}
-use Rattle.keep_store.specs.Publish.{Stays, IsStepOf, DidAtMost, FailedBetween, MayRefuse, store_fault}
+use Rattle.keep_store.specs.Publish.{Stays, IsStepOf, DidAtMost, FailedBetween, MayRefuse, IsCalm, store_fault}
 use Rattle.keep_store.specs.TookLaws.{stays_none}
 
 module _ {T : Type 0} (old new : World) (call : FolderCall) (fault : FolderFault) (result : Result T FolderFault) (is : result ≡ Err fault) where
@@ -35,6 +36,21 @@ module _ {T : Type 0} (old new : World) (call : FolderCall) (fault : FolderFault
       by : (f : FolderFault) → fault ≡ f → IsTrue old.steady → IsTrue old.tells → store_fault call f ≡ store_fault call OutOfMemory
       by Failed e steady tells = absurd (causes.never steady (is_proper tells) (failed_as e))
       by OutOfMemory e steady tells = refl
+
+-- The count of faults stands still in a call that answers Ok,
+pub calm_ok : {T proper : Type 0} {old new : World} {x : T} → Causes proper old new (Ok x) → new.faults ≡ old.faults
+calm_ok {T} {proper} {old} {new} {x} causes = causes.calm (λ failed. absurd (let e : Ok x ≡ Err Failed = failed in cc))
+
+-- and in one that is refused for want of memory.
+pub calm_by : {T proper : Type 0} (U : Type 0) (old new : World) (call : FolderCall) (fault : FolderFault) (result : Result T FolderFault) → result ≡ Err fault → Causes proper old new result → IsCalm {T = U} old new (Err (store_fault call fault))
+calm_by U old new call Failed result is causes = tt
+calm_by U old new call OutOfMemory result is causes = causes.calm (λ failed. absurd (let e : Err OutOfMemory ≡ Err Failed = sym is ∙ failed in cc))
+
+-- So it is of two calls in turn.
+pub calm_later : {T : Type 0} (first second third : World) (result : Result T StoreFault) → second.faults ≡ first.faults → IsCalm second third result → IsCalm first third result
+calm_later first second third (Ok x) before calm = calm ∙ before
+calm_later first second third (Err (Folder call)) before calm = tt
+calm_later first second third (Err NoMemory) before calm = calm ∙ before
 
 -- what a failed call did that is done whole or not at all,
 pub did_whole : {T proper : Type 0} {step : Disk → Disk} (call : FolderCall) (old new : World) (result : Result T FolderFault) → IsStepOf call step → (IsTrue new.tells → Does proper step old.story new.story result)

@@ -1,5 +1,5 @@
 -- Why a call that works by a folder is refused, and what a crash leaves while a file is published.
-use Rattle.std.specs.Prelude.{◌≡◌, ◌⊎◌, ℕ, ◌≤◌, IsTrue, Some, None}
+use Rattle.std.specs.Prelude.{◌≡◌, ◌⊎◌, ℕ, ◌≤◌, IsTrue, Some, None, Result, Ok, Err, ⊤}
 use Rattle.text_base.specs.Causes.{Rose}
 use Rattle.text_base.specs.declared.faults.FolderFault.{FolderFault}
 use Rattle.text_base.specs.declared.faults.FolderFault.TheVariants.{Failed, OutOfMemory}
@@ -57,6 +57,12 @@ pub record FailedBetween (call : FolderCall) (old new : World) : Type 0 where
 abbrev pub MayRefuse : World → World → StoreFault → Type 0
 MayRefuse old new (Folder call) = FailedBetween call old new
 MayRefuse old new NoMemory = Rose old.refusals new.refusals
+
+-- The count of faults stands still, unless the answer is a fault of the folder.
+abbrev pub IsCalm : {T : Type 0} → World → World → Result T StoreFault → Type 0
+IsCalm old new (Ok _) = new.faults ≡ old.faults
+IsCalm old new (Err (Folder call)) = ⊤
+IsCalm old new (Err NoMemory) = new.faults ≡ old.faults
 
 -- an image of before, but with the whole file under its new name alone
 pub record IsPublished (from to : Name) (disk : Disk) (image : Image) : Type 0 where

@@ -2,7 +2,7 @@ ghost use Rattle.std.specs.Prelude.{◌≡◌, IsTrue, OnOk, IfErr};
 ghost use Rattle.text_base.specs.Causes.{Rose};
 ghost use Rattle.folder_base.specs.Disk.{synced, renamed, settled};
 ghost use Rattle.folder_base.specs.Story.{Through, IsWhole, stands};
-ghost use Rattle.keep_store.specs.Publish.{IsBeforeOrMoved, MayRefuse, Stays};
+ghost use Rattle.keep_store.specs.Publish.{IsBeforeOrMoved, IsCalm, MayRefuse, Stays};
 
 use crate::refusal::store_fault;
 use folder_base::{Folder, FolderCall, StoreFault};
@@ -13,6 +13,7 @@ pub fn publish<F: Folder>(folder: &mut F, from: &str, to: &str) -> Result<(), St
     requires { IsTrue (F.world folder.old).tells → IsWhole (F.world folder.old) }
     ensures kept { Stays (F.world folder.old) (F.world folder.new) }
     ensures refused { IfErr result (MayRefuse (F.world folder.old) (F.world folder.new)) }
+    ensures calm { IsCalm (F.world folder.old) (F.world folder.new) result }
     ensures steady { IsTrue (F.world folder.old).steady → IsTrue (F.world folder.old).tells
         → stands (F.world folder.old) from.now
         → IfErr result (λ fault. fault ≡ StoreFault.OutOfMemory) }
