@@ -1,5 +1,4 @@
 pub mod FamilyLemmas
-pub mod RefuseLemmas
 pub mod ClearLemmas
 pub mod LastLemmas
 pub mod SoundLemmas

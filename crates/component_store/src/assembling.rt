@@ -1,8 +1,8 @@
 //! Puts a component together from its pieces.
-ghost use Rattle.std.specs.Prelude.{◌≡◌, ◌⊎◌, ◌≢◌, IsTrue, IfErr, OnOk};
+ghost use Rattle.std.specs.Prelude.{◌≡◌, ◌≢◌, IsTrue, OnOk};
 ghost use Rattle.folder_base.specs.Story.{Through, IsWhole};
-ghost use Rattle.keep_store.specs.Lane.{IsRefusal};
 ghost use Rattle.keep_store.specs.Publish.{Stays};
+ghost use Rattle.folder_steps.specs.Blames.{BlamesMemory};
 ghost use Rattle.folder_steps.specs.Follow.{Always};
 ghost use Rattle.component_store.specs.Component.{Web, ComponentSound, HasPieces};
 ghost use Rattle.component_store.specs.Target.{component_of};
@@ -23,9 +23,7 @@ fn assemble_one<F: Folder>(target: &Target, alloc: Global, folder: &mut F) -> Re
     requires complete { IsTrue (F.world folder.old).tells
         → AllComplete (component_of target.now) target.now.count (F.world folder.old).story.now.live }
     ensures kept { Stays (F.world folder.old) (F.world folder.new) }
-    ensures refused { IfErr result
-        (λ fault. (fault ≡ StoreFault.OutOfMemory)
-        ⊎ IsRefusal (F.world folder.old) (F.world folder.new) fault) }
+    ensures blames { BlamesMemory (F.world folder.old) (F.world folder.new) result }
     ensures moments { IsTrue (F.world folder.new).tells
         → Through (F.world folder.old).story (F.world folder.new).story
         (IsAssembling (component_of target.now) target.now.count (F.world folder.old).story.now) }
@@ -53,9 +51,7 @@ fn assemble_all<F: Folder>(target: &Target, alloc: Global, folder: &mut F) -> Re
     requires complete { IsTrue (F.world folder.old).tells
         → AllComplete (component_of target.now) target.now.count (F.world folder.old).story.now.live }
     ensures kept { Stays (F.world folder.old) (F.world folder.new) }
-    ensures refused { IfErr result
-        (λ fault. (fault ≡ StoreFault.OutOfMemory)
-        ⊎ IsRefusal (F.world folder.old) (F.world folder.new) fault) }
+    ensures blames { BlamesMemory (F.world folder.old) (F.world folder.new) result }
     ensures moments { IsTrue (F.world folder.new).tells
         → Through (F.world folder.old).story (F.world folder.new).story
         (IsAssembling (component_of target.now) target.now.count (F.world folder.old).story.now) }
@@ -86,9 +82,7 @@ impl Target {
         requires complete { IsTrue (F.world folder.old).tells
             → AllComplete (component_of self.now) self.now.count (F.world folder.old).story.now.live }
         ensures kept { Stays (F.world folder.old) (F.world folder.new) }
-        ensures refused { IfErr result
-            (λ fault. (fault ≡ StoreFault.OutOfMemory)
-            ⊎ IsRefusal (F.world folder.old) (F.world folder.new) fault) }
+        ensures blames { BlamesMemory (F.world folder.old) (F.world folder.new) result }
         ensures moments { IsTrue (F.world folder.new).tells
             → Through (F.world folder.old).story (F.world folder.new).story
             (IsAssembling (component_of self.now) self.now.count (F.world folder.old).story.now) }

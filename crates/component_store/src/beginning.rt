@@ -1,10 +1,10 @@
 //! Begins a component.
-ghost use Rattle.std.specs.Prelude.{◌≡◌, ◌⊎◌, IsTrue, IfErr, OnOk, IfOk, None, true, bytes_eq, is_some};
+ghost use Rattle.std.specs.Prelude.{◌≡◌, IsTrue, OnOk, IfOk, None, true, bytes_eq, is_some};
 ghost use Rattle.folder_base.specs.Disk.{May, put};
 ghost use Rattle.folder_base.specs.Story.{Through, IsWhole};
-ghost use Rattle.keep_store.specs.Lane.{IsRefusal};
 ghost use Rattle.keep_store.specs.Publish.{Stays};
 ghost use Rattle.keep_store.specs.Safe.{reads};
+ghost use Rattle.folder_steps.specs.Blames.{Blames, BlamesMemory};
 ghost use Rattle.folder_steps.specs.Follow.{Always, Follows, Thinner, IsLive};
 ghost use Rattle.folder_steps.specs.Reading.{has_bytes};
 ghost use Rattle.plan_record.specs.Names.{record_of, spare_of};
@@ -29,9 +29,7 @@ fn start<F: Folder>(
 ) -> Result<(), StoreFault>
     requires { IsTrue (F.world folder.old).tells → IsWhole (F.world folder.old) }
     ensures kept { Stays (F.world folder.old) (F.world folder.new) }
-    ensures refused { IfErr result
-        (λ fault. (fault ≡ StoreFault.OutOfMemory)
-        ⊎ IsRefusal (F.world folder.old) (F.world folder.new) fault) }
+    ensures blames { BlamesMemory (F.world folder.old) (F.world folder.new) result }
     ensures moments { IsTrue (F.world folder.new).tells
         → Through (F.world folder.old).story (F.world folder.new).story
         (IsStarting (component_of target.now) target.now.is_final plan.now
@@ -69,9 +67,7 @@ fn is_recorded<F: Folder>(
 ) -> Result<bool, StoreFault>
     requires { IsTrue (F.world folder.old).tells → IsWhole (F.world folder.old) }
     ensures kept { Stays (F.world folder.old) (F.world folder.new) }
-    ensures refused { IfErr result
-        (λ fault. (fault ≡ StoreFault.OutOfMemory)
-        ⊎ IsRefusal (F.world folder.old) (F.world folder.new) fault) }
+    ensures blames { BlamesMemory (F.world folder.old) (F.world folder.new) result }
     ensures moments { IsTrue (F.world folder.new).tells
         → Through (F.world folder.old).story (F.world folder.new).story
         (Follows (May (F.world folder.old).story.now)
@@ -107,9 +103,7 @@ fn goes_on<F: Folder>(
 ) -> Result<bool, StoreFault>
     requires { IsTrue (F.world folder.old).tells → IsWhole (F.world folder.old) }
     ensures kept { Stays (F.world folder.old) (F.world folder.new) }
-    ensures refused { IfErr result
-        (λ fault. (fault ≡ StoreFault.OutOfMemory)
-        ⊎ IsRefusal (F.world folder.old) (F.world folder.new) fault) }
+    ensures blames { BlamesMemory (F.world folder.old) (F.world folder.new) result }
     ensures moments { IsTrue (F.world folder.new).tells
         → Through (F.world folder.old).story (F.world folder.new).story
         (Follows (May (F.world folder.old).story.now)
@@ -134,7 +128,7 @@ fn goes_on<F: Folder>(
 fn as_it_stands<F: Folder>(target: &Target, folder: &mut F) -> Result<Begun, StoreFault>
     requires { IsTrue (F.world folder.old).tells → IsWhole (F.world folder.old) }
     ensures kept { Stays (F.world folder.old) (F.world folder.new) }
-    ensures refused { IfErr result (IsRefusal (F.world folder.old) (F.world folder.new)) }
+    ensures blames { Blames (F.world folder.old) (F.world folder.new) result }
     ensures same { IsTrue (F.world folder.new).tells
         → (F.world folder.new).story ≡ (F.world folder.old).story }
     ensures answer { IsTrue (F.world folder.new).tells
@@ -161,9 +155,7 @@ impl Target {
     ) -> Result<Begun, StoreFault>
         requires { IsTrue (F.world folder.old).tells → IsWhole (F.world folder.old) }
         ensures kept { Stays (F.world folder.old) (F.world folder.new) }
-        ensures refused { IfErr result
-            (λ fault. (fault ≡ StoreFault.OutOfMemory)
-            ⊎ IsRefusal (F.world folder.old) (F.world folder.new) fault) }
+        ensures blames { BlamesMemory (F.world folder.old) (F.world folder.new) result }
         ensures moments { IsTrue (F.world folder.new).tells
             → Through (F.world folder.old).story (F.world folder.new).story
             (IsBeginning (component_of self.now) self.now.is_final plan.now

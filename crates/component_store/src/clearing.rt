@@ -1,9 +1,9 @@
 //! Removes a component's files.
-ghost use Rattle.std.specs.Prelude.{◌≡◌, ◌⊎◌, IsTrue, IfErr, OnOk, None, not, ◌&&◌, bytes_eq, if◌then◌else◌};
+ghost use Rattle.std.specs.Prelude.{◌≡◌, IsTrue, OnOk, None, not, ◌&&◌, bytes_eq, if◌then◌else◌};
 ghost use Rattle.folder_base.specs.Disk.{May};
 ghost use Rattle.folder_base.specs.Story.{Through, IsWhole};
-ghost use Rattle.keep_store.specs.Lane.{IsRefusal};
 ghost use Rattle.keep_store.specs.Publish.{Stays};
+ghost use Rattle.folder_steps.specs.Blames.{Blames, BlamesMemory};
 ghost use Rattle.folder_steps.specs.Follow.{Always, Follows, Thinner, IsLive};
 ghost use Rattle.component_store.specs.Target.{component_of};
 ghost use Rattle.component_store.specs.Tidy.{is_cleared, UnderRecord, GoesBehind};
@@ -24,7 +24,7 @@ pub(crate) struct Left {
 fn drop_unless<F: Folder>(folder: &mut F, name: &str, stays: bool) -> Result<(), StoreFault>
     requires { IsTrue (F.world folder.old).tells → IsWhole (F.world folder.old) }
     ensures kept { Stays (F.world folder.old) (F.world folder.new) }
-    ensures refused { IfErr result (IsRefusal (F.world folder.old) (F.world folder.new)) }
+    ensures blames { Blames (F.world folder.old) (F.world folder.new) result }
     ensures moments { IsTrue (F.world folder.new).tells
         → Through (F.world folder.old).story (F.world folder.new).story
         (Follows (May (F.world folder.old).story.now)
@@ -45,7 +45,7 @@ fn drop_unless<F: Folder>(folder: &mut F, name: &str, stays: bool) -> Result<(),
 fn drop_record<F: Folder>(folder: &mut F, name: &str, stays: bool) -> Result<(), StoreFault>
     requires { IsTrue (F.world folder.old).tells → IsWhole (F.world folder.old) }
     ensures kept { Stays (F.world folder.old) (F.world folder.new) }
-    ensures refused { IfErr result (IsRefusal (F.world folder.old) (F.world folder.new)) }
+    ensures blames { Blames (F.world folder.old) (F.world folder.new) result }
     ensures moments { IsTrue (F.world folder.new).tells
         → Through (F.world folder.old).story (F.world folder.new).story
         (Follows (May (F.world folder.old).story.now)
@@ -76,9 +76,7 @@ pub(crate) fn clear<F: Folder>(
 ) -> Result<(), StoreFault>
     requires { IsTrue (F.world folder.old).tells → IsWhole (F.world folder.old) }
     ensures kept { Stays (F.world folder.old) (F.world folder.new) }
-    ensures refused { IfErr result
-        (λ fault. (fault ≡ StoreFault.OutOfMemory)
-        ⊎ IsRefusal (F.world folder.old) (F.world folder.new) fault) }
+    ensures blames { BlamesMemory (F.world folder.old) (F.world folder.new) result }
     ensures moments { IsTrue (F.world folder.new).tells
         → Through (F.world folder.old).story (F.world folder.new).story
         (Follows (May (F.world folder.old).story.now)

@@ -1,11 +1,11 @@
 //! Joins a component's pieces.
-ghost use Rattle.std.specs.Prelude.{◌≡◌, ◌⊎◌, ◌+◌, ◌<◌, ◌≤◌, ℕ, List, [], IsTrue, IfErr, OnOk, None, false, bytes_eq, length, if◌then◌else◌};
+ghost use Rattle.std.specs.Prelude.{◌≡◌, ◌+◌, ◌<◌, ◌≤◌, ℕ, List, [], IsTrue, OnOk, None, false, bytes_eq, length, if◌then◌else◌};
 ghost use Rattle.std.specs.String.{string_bytes, string_capacity};
 ghost use Rattle.folder_base.specs.Disk.{Disk, May, begins};
 ghost use Rattle.folder_base.specs.Story.{Through, IsWhole, stands};
-ghost use Rattle.keep_store.specs.Lane.{IsRefusal};
 ghost use Rattle.keep_store.specs.Publish.{Stays};
 ghost use Rattle.plan_record.specs.Names.{joined_of, pieces_of};
+ghost use Rattle.folder_steps.specs.Blames.{Blames};
 ghost use Rattle.folder_steps.specs.Follow.{Follows, Thinner, IsLive};
 ghost use Rattle.folder_steps.specs.Make.{HasNew};
 ghost use Rattle.component_store.specs.Target.{component_of};
@@ -32,7 +32,7 @@ fn pour_all<F: Folder>(
     requires buffer_room { 0 < length buffer.old }
     ensures kept { Stays (F.world folder.old) (F.world folder.new) }
     ensures room { length (component_of target.now) + 52 ≤ string_capacity stem.new }
-    ensures refused { IfErr result (IsRefusal (F.world folder.old) (F.world folder.new)) }
+    ensures blames { Blames (F.world folder.old) (F.world folder.new) result }
     ensures stands { IsTrue (F.world folder.new).tells
         → stands (F.world folder.new) (joined_of (component_of target.now)) }
     ensures loose { IsTrue (F.world folder.new).tells
@@ -66,7 +66,7 @@ pub(crate) fn join<F: Folder>(
     requires buffer_room { 0 < length buffer.old }
     ensures kept { Stays (F.world folder.old) (F.world folder.new) }
     ensures room { length (component_of target.now) + 52 ≤ string_capacity stem.new }
-    ensures refused { IfErr result (IsRefusal (F.world folder.old) (F.world folder.new)) }
+    ensures blames { Blames (F.world folder.old) (F.world folder.new) result }
     ensures moments { IsTrue (F.world folder.new).tells
         → Through (F.world folder.old).story (F.world folder.new).story
         (IsJoining (component_of target.now) target.now.count (F.world folder.old).story.now) }
@@ -91,7 +91,7 @@ pub(crate) fn drop_pieces<F: Folder>(
         → AllComplete (component_of target.now) target.now.count (F.world folder.old).story.now.live }
     requires room { length (component_of target.now) + 52 ≤ string_capacity stem.old }
     ensures kept { Stays (F.world folder.old) (F.world folder.new) }
-    ensures refused { IfErr result (IsRefusal (F.world folder.old) (F.world folder.new)) }
+    ensures blames { Blames (F.world folder.old) (F.world folder.new) result }
     ensures gone { IsTrue (F.world folder.new).tells
         → OnOk result
         (IsLive (λ name. if is_stem (component_of target.now) target.now.count name then None

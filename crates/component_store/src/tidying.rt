@@ -1,10 +1,10 @@
 //! Removes what a component needed while it was fetched.
-ghost use Rattle.std.specs.Prelude.{◌≡◌, ◌⊎◌, IsTrue, IfErr, IfOk, OnOk, None, ◌&&◌, ◌||◌, is_some, if◌then◌else◌};
+ghost use Rattle.std.specs.Prelude.{◌≡◌, IsTrue, IfOk, OnOk, None, ◌&&◌, ◌||◌, is_some, if◌then◌else◌};
 ghost use Rattle.folder_base.specs.Disk.{May};
 ghost use Rattle.folder_base.specs.Story.{Through, IsWhole};
-ghost use Rattle.keep_store.specs.Lane.{IsRefusal};
 ghost use Rattle.keep_store.specs.Opening.{Looked};
 ghost use Rattle.keep_store.specs.Publish.{Stays};
+ghost use Rattle.folder_steps.specs.Blames.{Blames, BlamesMemory};
 ghost use Rattle.folder_steps.specs.Follow.{Always, Follows, Thinner, IsLive};
 ghost use Rattle.component_store.specs.Component.{Web, ComponentSound};
 ghost use Rattle.component_store.specs.Target.{component_of};
@@ -27,7 +27,7 @@ fn component_stays(target: &Target, keep: bool) -> bool
 fn keeps_record<F: Folder>(target: &Target, folder: &mut F, keep: bool) -> Result<bool, StoreFault>
     requires { IsTrue (F.world folder.old).tells → IsWhole (F.world folder.old) }
     ensures looked { Looked (F.world folder.old) (F.world folder.new) }
-    ensures refused { IfErr result (IsRefusal (F.world folder.old) (F.world folder.new)) }
+    ensures blames { Blames (F.world folder.old) (F.world folder.new) result }
     ensures told { IsTrue (F.world folder.new).tells
         → IfOk result
         (λ keeps. keeps
@@ -50,9 +50,7 @@ impl Target {
     ) -> Result<(), StoreFault>
         requires { IsTrue (F.world folder.old).tells → IsWhole (F.world folder.old) }
         ensures kept { Stays (F.world folder.old) (F.world folder.new) }
-        ensures refused { IfErr result
-            (λ fault. (fault ≡ StoreFault.OutOfMemory)
-            ⊎ IsRefusal (F.world folder.old) (F.world folder.new) fault) }
+        ensures blames { BlamesMemory (F.world folder.old) (F.world folder.new) result }
         ensures moments { IsTrue (F.world folder.new).tells
             → Through (F.world folder.old).story (F.world folder.new).story
             (Follows (May (F.world folder.old).story.now)

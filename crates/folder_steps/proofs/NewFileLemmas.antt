@@ -61,8 +61,8 @@ pub is_made : (name : Name) {start new : Story} → Next (created name) start ne
 is_made name next = record { file = empty_file; content_is = refl; filled_is = next.now }
 
 -- Bytes were put behind its end.
-pub grows : (name : Name) (bytes : Bytes) {old new : Story} {proper : Type 0} (result : Result (Unit {0}) FolderFault) → DoesSome proper (λ n. appended name (take n bytes)) (length bytes) old new result → Grows name old new
-grows name bytes result does = ⊎_elim (λ same. inl same) (λ done. inr (take done.1.count bytes, done.1.next)) (outcome_some result does)
+pub grows : (name : Name) (bytes : Bytes) {old new : Story} {proper : Type 0} (result : Result (Unit {0}) FolderFault) → DoesSome proper (λ n. appended name (take n bytes)) (length bytes) old new result → Grows name bytes old new
+grows name bytes result does = ⊎_elim (λ same. inl same) (λ done. inr done.1) (outcome_some result does)
 
 is_longer : (name : Name) (before more : Bytes) (start disk : Disk) → HasNew name before start disk → HasNew name (before ++ more) start (appended name more disk)
 is_longer name before more start disk new = record {
@@ -75,24 +75,24 @@ pub has_more : (name : Name) (before more : Bytes) (start : Disk) {old new : Sto
 has_more name before more start {old} {new} had next =
     subst (λ (d : Disk). HasNew name (before ++ more) start d) (sym (next.now ∙ ap (λ (b : Bytes). appended name b old.now) (take_all (length more) more (omega arith)))) (is_longer name before more start old.now had)
 
-pub grown_loose : (name : Name) {old new : Story} → Grows name old new → KeepsLoose name old new
+pub grown_loose : (name : Name) (more : Bytes) {old new : Story} → Grows name more old new → KeepsLoose name old new
 unfolding is_longer
-grown_loose name (inl same) start bytes had run = stays run same
-grown_loose name {old} (inr done) start bytes had run =
-    goes_on run done.1 (λ image h. loose_may name start.now (longer done.0 had.file) image (subst (λ (d : Disk). May d image) (is_longer name bytes done.0 start.now old.now had).filled_is h))
+grown_loose name more (inl same) start bytes had run = stays run same
+grown_loose name more {old} (inr done) start bytes had run =
+    goes_on run done.next (λ image h. loose_may name start.now (longer (take done.count more) had.file) image (subst (λ (d : Disk). May d image) (is_longer name bytes (take done.count more) start.now old.now had).filled_is h))
 
 -- Another name keeps what it had,
-pub grows_beside : (name other : Name) {old new : Story} → bytes_eq name other ≡ false → Grows name old new → new.now.live other ≡ old.now.live other
-grows_beside name other apart (inl same) = ap (λ (s : Story). s.now.live other) same
-grows_beside name other {old} apart (inr done) = ap (λ (d : Disk). d.live other) done.1.now ∙ put_there old.now.live name other (option_map (longer done.0) (old.now.live name)) apart
+pub grows_beside : (name other : Name) (more : Bytes) {old new : Story} → bytes_eq name other ≡ false → Grows name more old new → new.now.live other ≡ old.now.live other
+grows_beside name other more apart (inl same) = ap (λ (s : Story). s.now.live other) same
+grows_beside name other more {old} apart (inr done) = ap (λ (d : Disk). d.live other) done.next.now ∙ put_there old.now.live name other (option_map (longer (take done.count more)) (old.now.live name)) apart
 
 -- and the file still stands.
-pub grows_stands : (name : Name) {old new : Story} → Grows name old new → IsSome (old.now.live name) → IsSome (new.now.live name)
-grows_stands name (inl same) stands = subst (λ (s : Story). IsSome (s.now.live name)) (sym same) stands
-grows_stands name {old} (inr done) stands =
-    subst (λ (d : Disk). IsSome (d.live name)) (sym done.1.now) (subst (λ (o : Option File). IsSome o) (sym (put_here old.now.live name (option_map (longer done.0) (old.now.live name)))) (by (old.now.live name) stands))
+pub grows_stands : (name : Name) (more : Bytes) {old new : Story} → Grows name more old new → IsSome (old.now.live name) → IsSome (new.now.live name)
+grows_stands name more (inl same) stands = subst (λ (s : Story). IsSome (s.now.live name)) (sym same) stands
+grows_stands name more {old} (inr done) stands =
+    subst (λ (d : Disk). IsSome (d.live name)) (sym done.next.now) (subst (λ (o : Option File). IsSome o) (sym (put_here old.now.live name (option_map (longer (take done.count more)) (old.now.live name)))) (by (old.now.live name) stands))
   where
-    by : (o : Option File) → IsSome o → IsSome (option_map (longer done.0) o)
+    by : (o : Option File) → IsSome o → IsSome (option_map (longer (take done.count more)) o)
     by None none = none
     by (Some file) is = refl
 

@@ -30,5 +30,5 @@ ends_late o file piece at size is long below none stands =
     more_there (Some file) piece at size (ap (λ (n : ℕ). Some n) long) below none (subst (λ (p : Option File). StandsIn p at piece) is stands)
 
 -- Only the new file differs, while more is put behind it.
-pub loose_more : (to : Name) {old mid new : Story} → Grows to mid new → ((start : Disk) (before : Bytes) → HasNew to before start old.now → (now : Bytes) × HasNew to now start mid.now) → KeepsLoose to old mid → KeepsLoose to old new
-loose_more to grows has so_far start bytes had run = let now = has start.now bytes had in grown_loose to grows start now.0 now.1 (so_far start bytes had run)
+pub loose_more : (to : Name) (more : Bytes) {old mid new : Story} → Grows to more mid new → ((start : Disk) (before : Bytes) → HasNew to before start old.now → (now : Bytes) × HasNew to now start mid.now) → KeepsLoose to old mid → KeepsLoose to old new
+loose_more to more grows has so_far start bytes had run = let now = has start.now bytes had in grown_loose to more grows start now.0 now.1 (so_far start bytes had run)

@@ -1,3 +1,4 @@
 pub mod Reading
 pub mod Follow
 pub mod Make
+pub mod Blames

@@ -1,7 +1,7 @@
 -- A new file beside all as it was, and a new file that takes a name's place.
-use Rattle.std.specs.Prelude.{◌≡◌, ◌⊎◌, ◌∷◌, [], Option, Some, None, bytes_eq, if◌then◌else◌}
+use Rattle.std.specs.Prelude.{◌≡◌, ◌⊎◌, ◌∷◌, [], Option, Some, None, bytes_eq, length, take, if◌then◌else◌}
 use Rattle.folder_base.specs.Disk.{Name, Bytes, File, still, Disk, Image, May, put, named, freed, content, appended, lasting_file}
-use Rattle.folder_base.specs.Story.{Story, Next, Through}
+use Rattle.folder_base.specs.Story.{Story, DoneInPart, Through}
 use Rattle.folder_steps.specs.Follow.{Follows, Beside, IsLive}
 
 -- a new file under a name
@@ -16,9 +16,9 @@ pub record HasNew (name : Name) (bytes : Bytes) (start disk : Disk) : Type 0 whe
   pub content_is : content file ≡ bytes
   pub filled_is : disk ≡ filled name file start
 
--- Nothing was done, or bytes were put behind the file's end.
-abbrev pub Grows : Name → Story → Story → Type 0
-Grows name old new = (new ≡ old) ⊎ ((more : Bytes) × Next (appended name more) old new)
+-- Nothing was done, or the first of these bytes were put behind the file's end, some of them or all.
+abbrev pub Grows : Name → Bytes → Story → Story → Type 0
+Grows name bytes old new = (new ≡ old) ⊎ DoneInPart (λ count. appended name (take count bytes)) (length bytes) old new
 
 -- only the file under this name may differ
 abbrev pub IsLoose : Name → Disk → Image → Type 0

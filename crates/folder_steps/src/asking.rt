@@ -1,9 +1,9 @@
 //! What a folder is asked for.
-ghost use Rattle.std.specs.Prelude.{◌≡◌, ◌≤◌, ◌<◌, IsTrue, IfOk, IfErr, is_some, length, option_map};
+ghost use Rattle.std.specs.Prelude.{◌≡◌, ◌≤◌, ◌<◌, IsTrue, IfOk, is_some, length, option_map};
 ghost use Rattle.folder_base.specs.Disk.{content};
 ghost use Rattle.folder_base.specs.Story.{IsWhole, stands};
-ghost use Rattle.keep_store.specs.Lane.{IsRefusal};
 ghost use Rattle.keep_store.specs.Opening.{Looked};
+ghost use Rattle.folder_steps.specs.Blames.{Blames};
 ghost use Rattle.folder_steps.specs.Reading.{StandsIn};
 
 use folder_base::{Folder, FolderCall, StoreFault};
@@ -12,7 +12,7 @@ use folder_base::{Folder, FolderCall, StoreFault};
 pub fn size_of<F: Folder>(folder: &mut F, name: &str) -> Result<Option<u64>, StoreFault>
     requires { IsTrue (F.world folder.old).tells → IsWhole (F.world folder.old) }
     ensures looked { Looked (F.world folder.old) (F.world folder.new) }
-    ensures refused { IfErr result (IsRefusal (F.world folder.old) (F.world folder.new)) }
+    ensures blames { Blames (F.world folder.old) (F.world folder.new) result }
     ensures told { IsTrue (F.world folder.new).tells
         → IfOk result
         (λ size. size ≡ option_map
@@ -30,7 +30,7 @@ pub fn size_of<F: Folder>(folder: &mut F, name: &str) -> Result<Option<u64>, Sto
 pub fn is_there<F: Folder>(folder: &mut F, name: &str) -> Result<bool, StoreFault>
     requires { IsTrue (F.world folder.old).tells → IsWhole (F.world folder.old) }
     ensures looked { Looked (F.world folder.old) (F.world folder.new) }
-    ensures refused { IfErr result (IsRefusal (F.world folder.old) (F.world folder.new)) }
+    ensures blames { Blames (F.world folder.old) (F.world folder.new) result }
     ensures told { IsTrue (F.world folder.new).tells
         → IfOk result
         (λ there. there ≡ is_some ((F.world folder.old).story.now.live name.now)) }
@@ -55,7 +55,7 @@ pub(crate) fn read_some<'a, F: Folder>(
     requires some { 0 < most }
     requires room { 0 < length buffer.old }
     ensures looked { Looked (F.world folder.old) (F.world folder.new) }
-    ensures refused { IfErr result (IsRefusal (F.world folder.old) (F.world folder.new)) }
+    ensures blames { Blames (F.world folder.old) (F.world folder.new) result }
     ensures short { IfOk result (λ piece. length piece.now ≤ most) }
     ensures told { IsTrue (F.world folder.new).tells
         → IfOk result

@@ -1,10 +1,10 @@
 //! Whether a file has just these bytes.
-ghost use Rattle.std.specs.Prelude.{◌≡◌, ◌<◌, IsTrue, IfOk, IfErr, Some, length, option_map};
+ghost use Rattle.std.specs.Prelude.{◌≡◌, ◌<◌, IsTrue, IfOk, Some, length, option_map};
 ghost use Rattle.folder_base.specs.Disk.{content};
 ghost use Rattle.folder_base.specs.Story.{IsWhole};
-ghost use Rattle.keep_store.specs.Lane.{IsRefusal};
 ghost use Rattle.keep_store.specs.Opening.{Looked};
 ghost use Rattle.keep_store.specs.Safe.{reads};
+ghost use Rattle.folder_steps.specs.Blames.{Blames};
 ghost use Rattle.folder_steps.specs.Reading.{has_bytes};
 
 use crate::asking::{read_some, size_of};
@@ -21,7 +21,7 @@ pub fn holds<F: Folder>(
     requires whole { IsTrue (F.world folder.old).tells → IsWhole (F.world folder.old) }
     requires room { 0 < length buffer.old }
     ensures looked { Looked (F.world folder.old) (F.world folder.new) }
-    ensures refused { IfErr result (IsRefusal (F.world folder.old) (F.world folder.new)) }
+    ensures blames { Blames (F.world folder.old) (F.world folder.new) result }
     ensures told { IsTrue (F.world folder.new).tells
         → IfOk result
         (λ same. same ≡ has_bytes (reads (F.world folder.old).story.now name.now) bytes.now) }
@@ -45,7 +45,7 @@ fn reads_as<F: Folder>(
         → option_map (λ file. length (content file)) ((F.world folder.old).story.now.live name.now)
         ≡ Some (length bytes.now) }
     ensures looked { Looked (F.world folder.old) (F.world folder.new) }
-    ensures refused { IfErr result (IsRefusal (F.world folder.old) (F.world folder.new)) }
+    ensures blames { Blames (F.world folder.old) (F.world folder.new) result }
     ensures told { IsTrue (F.world folder.new).tells
         → IfOk result
         (λ same. same ≡ has_bytes (reads (F.world folder.old).story.now name.now) bytes.now) }

@@ -1,9 +1,9 @@
 //! Removes files that may go.
-ghost use Rattle.std.specs.Prelude.{◌≡◌, ◌⊎◌, IsTrue, OnOk, IfErr, IfOk, None, bytes_eq, is_some, if◌then◌else◌};
+ghost use Rattle.std.specs.Prelude.{◌≡◌, IsTrue, OnOk, IfOk, None, bytes_eq, is_some, if◌then◌else◌};
 ghost use Rattle.folder_base.specs.Disk.{May, put, begins};
 ghost use Rattle.folder_base.specs.Story.{Through, IsWhole, stands};
-ghost use Rattle.keep_store.specs.Lane.{IsRefusal};
 ghost use Rattle.keep_store.specs.Publish.{Stays};
+ghost use Rattle.folder_steps.specs.Blames.{Blames, BlamesMemory};
 ghost use Rattle.folder_steps.specs.Follow.{Follows, Thinner, IsLive};
 
 use crate::asking::is_there;
@@ -16,7 +16,7 @@ pub fn drop_standing<F: Folder>(folder: &mut F, name: &str) -> Result<(), StoreF
     requires whole { IsTrue (F.world folder.old).tells → IsWhole (F.world folder.old) }
     requires stands { IsTrue (F.world folder.old).tells → stands (F.world folder.old) name.now }
     ensures kept { Stays (F.world folder.old) (F.world folder.new) }
-    ensures refused { IfErr result (IsRefusal (F.world folder.old) (F.world folder.new)) }
+    ensures blames { Blames (F.world folder.old) (F.world folder.new) result }
     ensures gone { IsTrue (F.world folder.new).tells
         → OnOk result
         (IsLive (put (F.world folder.old).story.now.live name.now None)
@@ -35,7 +35,7 @@ pub fn drop_standing<F: Folder>(folder: &mut F, name: &str) -> Result<(), StoreF
 pub fn drop_name<F: Folder>(folder: &mut F, name: &str) -> Result<bool, StoreFault>
     requires { IsTrue (F.world folder.old).tells → IsWhole (F.world folder.old) }
     ensures kept { Stays (F.world folder.old) (F.world folder.new) }
-    ensures refused { IfErr result (IsRefusal (F.world folder.old) (F.world folder.new)) }
+    ensures blames { Blames (F.world folder.old) (F.world folder.new) result }
     ensures stood { IsTrue (F.world folder.new).tells
         → IfOk result
         (λ stood. stood ≡ is_some ((F.world folder.old).story.now.live name.now)) }
@@ -60,9 +60,7 @@ pub fn drop_name<F: Folder>(folder: &mut F, name: &str) -> Result<bool, StoreFau
 pub fn sweep<F: Folder>(alloc: Global, folder: &mut F, prefix: &str) -> Result<(), StoreFault>
     requires { IsTrue (F.world folder.old).tells → IsWhole (F.world folder.old) }
     ensures kept { Stays (F.world folder.old) (F.world folder.new) }
-    ensures refused { IfErr result
-        (λ fault. (fault ≡ StoreFault.OutOfMemory)
-        ⊎ IsRefusal (F.world folder.old) (F.world folder.new) fault) }
+    ensures blames { BlamesMemory (F.world folder.old) (F.world folder.new) result }
     ensures gone { IsTrue (F.world folder.new).tells
         → OnOk result
         (IsLive (λ other. if begins prefix.now other then None

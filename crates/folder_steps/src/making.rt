@@ -1,9 +1,9 @@
 //! Writes a new file under a name that is free.
-ghost use Rattle.std.specs.Prelude.{◌≡◌, ◌++◌, [], ℕ, List, IsTrue, OnOk, IfErr, None, bytes_eq};
+ghost use Rattle.std.specs.Prelude.{◌≡◌, ◌++◌, [], ℕ, List, IsTrue, OnOk, None, bytes_eq};
 ghost use Rattle.folder_base.specs.Disk.{Disk, May};
 ghost use Rattle.folder_base.specs.Story.{Story, Through, IsWhole, stands};
-ghost use Rattle.keep_store.specs.Lane.{IsRefusal};
 ghost use Rattle.keep_store.specs.Publish.{Stays};
+ghost use Rattle.folder_steps.specs.Blames.{Blames};
 ghost use Rattle.folder_steps.specs.Follow.{Follows, Beside};
 ghost use Rattle.folder_steps.specs.Make.{HasNew, Grows};
 
@@ -16,7 +16,7 @@ pub fn make<F: Folder>(folder: &mut F, name: &str) -> Result<(), StoreFault>
     requires free { IsTrue (F.world folder.old).tells
         → (F.world folder.old).story.now.live name.now ≡ None }
     ensures kept { Stays (F.world folder.old) (F.world folder.new) }
-    ensures refused { IfErr result (IsRefusal (F.world folder.old) (F.world folder.new)) }
+    ensures blames { Blames (F.world folder.old) (F.world folder.new) result }
     ensures made { IsTrue (F.world folder.new).tells
         → OnOk result
         (HasNew name.now [] (F.world folder.old).story.now (F.world folder.new).story.now) }
@@ -35,9 +35,9 @@ pub fn put_behind<F: Folder>(folder: &mut F, name: &str, bytes: &[u8]) -> Result
     requires whole { IsTrue (F.world folder.old).tells → IsWhole (F.world folder.old) }
     requires stands { IsTrue (F.world folder.old).tells → stands (F.world folder.old) name.now }
     ensures kept { Stays (F.world folder.old) (F.world folder.new) }
-    ensures refused { IfErr result (IsRefusal (F.world folder.old) (F.world folder.new)) }
+    ensures blames { Blames (F.world folder.old) (F.world folder.new) result }
     ensures grown { IsTrue (F.world folder.new).tells
-        → Grows name.now (F.world folder.old).story (F.world folder.new).story }
+        → Grows name.now bytes.now (F.world folder.old).story (F.world folder.new).story }
     ensures put { IsTrue (F.world folder.new).tells
         → (start : Disk) (before : List ℕ)
         → HasNew name.now before start (F.world folder.old).story.now

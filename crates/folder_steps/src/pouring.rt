@@ -1,9 +1,9 @@
 //! Copies a file behind the end of another.
-ghost use Rattle.std.specs.Prelude.{◌≡◌, ◌++◌, ◌<◌, ℕ, List, IsTrue, OnOk, IfErr, Some, false, bytes_eq, length};
+ghost use Rattle.std.specs.Prelude.{◌≡◌, ◌++◌, ◌<◌, ℕ, List, IsTrue, OnOk, Some, false, bytes_eq, length};
 ghost use Rattle.folder_base.specs.Disk.{Disk, File, content};
 ghost use Rattle.folder_base.specs.Story.{IsWhole, stands};
-ghost use Rattle.keep_store.specs.Lane.{IsRefusal};
 ghost use Rattle.keep_store.specs.Publish.{Stays};
+ghost use Rattle.folder_steps.specs.Blames.{Blames};
 ghost use Rattle.folder_steps.specs.Make.{HasNew, KeepsLoose};
 
 use crate::asking::{read_some, size_of};
@@ -24,7 +24,7 @@ pub fn pour<F: Folder>(
     requires apart { bytes_eq to.now from.now ≡ false }
     requires room { 0 < length buffer.old }
     ensures kept { Stays (F.world folder.old) (F.world folder.new) }
-    ensures refused { IfErr result (IsRefusal (F.world folder.old) (F.world folder.new)) }
+    ensures blames { Blames (F.world folder.old) (F.world folder.new) result }
     ensures stands { IsTrue (F.world folder.new).tells → stands (F.world folder.new) to.now }
     ensures others { IsTrue (F.world folder.new).tells
         → (other : List ℕ) → bytes_eq to.now other ≡ false

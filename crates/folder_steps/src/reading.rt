@@ -1,9 +1,9 @@
 //! Reads a file whole.
-ghost use Rattle.std.specs.Prelude.{◌≡◌, ◌⊎◌, ◌≤◌, [], IsTrue, IfOk, IfErr, length, unwrap_or};
+ghost use Rattle.std.specs.Prelude.{◌≡◌, ◌≤◌, [], IsTrue, IfOk, length, unwrap_or};
 ghost use Rattle.folder_base.specs.Story.{IsWhole, stands};
-ghost use Rattle.keep_store.specs.Lane.{IsRefusal};
 ghost use Rattle.keep_store.specs.Opening.{Looked};
 ghost use Rattle.keep_store.specs.Safe.{reads};
+ghost use Rattle.folder_steps.specs.Blames.{Blames, BlamesMemory};
 ghost use Rattle.folder_steps.specs.Reading.{FrontIsRead};
 
 use crate::asking::size_of;
@@ -15,7 +15,7 @@ fn read_front<F: Folder>(folder: &mut F, name: &str, bytes: &mut [u8]) -> Result
     requires whole { IsTrue (F.world folder.old).tells → IsWhole (F.world folder.old) }
     requires stands { IsTrue (F.world folder.old).tells → stands (F.world folder.old) name.now }
     ensures looked { Looked (F.world folder.old) (F.world folder.new) }
-    ensures refused { IfErr result (IsRefusal (F.world folder.old) (F.world folder.new)) }
+    ensures blames { Blames (F.world folder.old) (F.world folder.new) result }
     ensures told { IsTrue (F.world folder.new).tells
         → IfOk result
         (FrontIsRead ((F.world folder.old).story.now.live name.now) bytes.new) }
@@ -39,9 +39,7 @@ fn read_front<F: Folder>(folder: &mut F, name: &str, bytes: &mut [u8]) -> Result
 pub fn read_all<F: Folder>(alloc: Global, folder: &mut F, name: &str) -> Result<Vec<u8>, StoreFault>
     requires { IsTrue (F.world folder.old).tells → IsWhole (F.world folder.old) }
     ensures looked { Looked (F.world folder.old) (F.world folder.new) }
-    ensures refused { IfErr result
-        (λ fault. (fault ≡ StoreFault.OutOfMemory)
-        ⊎ IsRefusal (F.world folder.old) (F.world folder.new) fault) }
+    ensures blames { BlamesMemory (F.world folder.old) (F.world folder.new) result }
     ensures told { IsTrue (F.world folder.new).tells
         → IfOk result
         (λ bytes. bytes.items ≡ unwrap_or (reads (F.world folder.old).story.now name.now) []) }

@@ -1,9 +1,9 @@
 //! Puts a new file in a name's place, so that a crash leaves what stood there or all of the new bytes.
-ghost use Rattle.std.specs.Prelude.{◌≡◌, ℕ, List, IsTrue, OnOk, IfErr, None, bytes_eq};
+ghost use Rattle.std.specs.Prelude.{◌≡◌, ℕ, List, IsTrue, OnOk, None, bytes_eq};
 ghost use Rattle.folder_base.specs.Disk.{Disk};
 ghost use Rattle.folder_base.specs.Story.{Story, Through, IsWhole, stands};
-ghost use Rattle.keep_store.specs.Lane.{IsRefusal};
 ghost use Rattle.keep_store.specs.Publish.{Stays};
+ghost use Rattle.folder_steps.specs.Blames.{Blames};
 ghost use Rattle.folder_steps.specs.Follow.{Follows, Beside};
 ghost use Rattle.folder_steps.specs.Make.{HasNew, Publishes, IsReplacing, IsReplaced};
 
@@ -16,7 +16,7 @@ pub fn publish_new<F: Folder>(folder: &mut F, spare: &str, to: &str) -> Result<(
     requires whole { IsTrue (F.world folder.old).tells → IsWhole (F.world folder.old) }
     requires stands { IsTrue (F.world folder.old).tells → stands (F.world folder.old) spare.now }
     ensures kept { Stays (F.world folder.old) (F.world folder.new) }
-    ensures refused { IfErr result (IsRefusal (F.world folder.old) (F.world folder.new)) }
+    ensures blames { Blames (F.world folder.old) (F.world folder.new) result }
     ensures moments { IsTrue (F.world folder.new).tells
         → Publishes spare.now to.now (F.world folder.old).story (F.world folder.new).story }
     ensures done { IsTrue (F.world folder.new).tells
@@ -38,7 +38,7 @@ pub fn replace<F: Folder>(
     requires free { IsTrue (F.world folder.old).tells
         → (F.world folder.old).story.now.live spare.now ≡ None }
     ensures kept { Stays (F.world folder.old) (F.world folder.new) }
-    ensures refused { IfErr result (IsRefusal (F.world folder.old) (F.world folder.new)) }
+    ensures blames { Blames (F.world folder.old) (F.world folder.new) result }
     ensures done { IsTrue (F.world folder.new).tells
         → OnOk result
         (IsReplaced spare.now to.now bytes.now

@@ -12,7 +12,7 @@ use Rattle.component_store.proofs.BeginLemmas.{ok_anyway}
 use Rattle.component_store.proofs.AssembleLemmas.{as_before, dropping_joined, joining_before, joined_all, assembled_thin, all_names, not_one, stems_left, joined_dropped, joined_thin}
 use Rattle.std.proofs.lemmas.Result.{err_from_is_err_and}
 use Rattle.keep_store.specs.TookLaws.{stays_both}
-use Rattle.component_store.proofs.RefuseLemmas.{later, if_later}
+use Rattle.folder_steps.proofs.RefusalLemmas.{later, own, err_later_own}
 use Rattle.component_store.proofs.assembling.assemble_all.Goals as goal
 
 pub returns-in_default-clause-moments : goal.returns-in_default-clause-moments
@@ -110,15 +110,15 @@ returns-clause-in_all g c t =
     ok_anyway c.drop_pieces.result (λ image h. assembled_thin C count (g.F.Folder.world c.args.folder.now).story.now (g.F.Folder.world c.join.new.folder).story.now
     (joined_all C count (g.F.Folder.world c.args.folder.now).story.now (g.F.Folder.world c.settle.new.folder).story.now (ends first) (λ n. ap (λ (d : Disk). d.live n) settled ∙ dropped n) (settled_only (g.F.Folder.world c.drop_name.new.folder).story.now (g.F.Folder.world c.settle.new.folder).story.now settled) (g.F.Folder.world c.join.new.folder).story.now (c.in_ok-join.ensures.done t3)) image (ends (c.drop_pieces.ensures.moments t) image h))
 
-pub returns-in_err-settle-clause-refused : goal.returns-in_err-settle-clause-refused
-returns-in_err-settle-clause-refused g c =
+pub returns-in_err-settle-clause-blames : goal.returns-in_err-settle-clause-blames
+returns-in_err-settle-clause-blames g c =
     let p = err_from_is_err_and c.from_residual-in_err-settle.result c.from_residual-in_err-settle.ensures.1 in
-    rw (p.1, p.2) (later (c.drop_name.ensures.kept) c.in_err-settle.ensures.refused)
+    rw (p.1, p.2) (err_later_own c.drop_name.ensures.kept c.in_ok-drop_name.ensures.blames.calm c.in_err-settle.ensures.blames)
 
-pub returns-in_err-join-clause-refused : goal.returns-in_err-join-clause-refused
-returns-in_err-join-clause-refused g c =
+pub returns-in_err-join-clause-blames : goal.returns-in_err-join-clause-blames
+returns-in_err-join-clause-blames g c =
     let p = err_from_is_err_and c.from_residual-in_err-join.result c.from_residual-in_err-join.ensures.1 in
-    rw (p.1, p.2) (later (stays_both c.drop_name.ensures.kept c.settle.ensures.kept) c.in_err-join.ensures.refused)
+    rw (p.1, p.2) (err_later_own (stays_both c.drop_name.ensures.kept c.settle.ensures.kept) (c.in_ok-settle.ensures.blames.calm ∙ c.in_ok-drop_name.ensures.blames.calm) c.in_err-join.ensures.blames)
 
-pub returns-clause-refused : goal.returns-clause-refused
-returns-clause-refused g c = if_later _ c.drop_pieces.result (stays_both (stays_both c.drop_name.ensures.kept c.settle.ensures.kept) c.join.ensures.kept) c.drop_pieces.ensures.refused
+pub returns-clause-blames : goal.returns-clause-blames
+returns-clause-blames g c = own c.drop_pieces.result (later _ c.drop_pieces.result (stays_both (stays_both c.drop_name.ensures.kept c.settle.ensures.kept) c.join.ensures.kept) (c.in_ok-join.ensures.blames.calm ∙ c.in_ok-settle.ensures.blames.calm ∙ c.in_ok-drop_name.ensures.blames.calm) c.drop_pieces.ensures.blames)

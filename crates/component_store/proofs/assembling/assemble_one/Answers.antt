@@ -6,12 +6,11 @@ use Rattle.folder_base.specs.Story.{Through}
 use Rattle.folder_base.proofs.Moments.{weaker, joined}
 use Rattle.folder_steps.specs.Follow.{Always}
 use Rattle.folder_steps.proofs.ImageLemmas.{ends, settled_only}
-use Rattle.folder_steps.proofs.RefusalLemmas.{refusal_of}
 use Rattle.keep_store.specs.Publish.{IsBeforeOrMoved}
 use Rattle.plan_record.specs.Names.{stem_of}
 use Rattle.component_store.specs.Assemble.{IsAssembled, IsAssembling, IsPutTogether}
 use Rattle.component_store.proofs.AssembleLemmas.{one_moments, one_done, one_all, as_before}
-use Rattle.component_store.proofs.RefuseLemmas.{if_later}
+use Rattle.folder_steps.proofs.RefusalLemmas.{blames_of, later, own}
 use Rattle.component_store.proofs.assembling.assemble_one.Goals as goal
 
 pub returns-in_default-clause-moments : goal.returns-in_default-clause-moments
@@ -65,11 +64,11 @@ returns-clause-in_all g c t =
     (on_ok_weaker c.publish.result (λ made. one_all C old mid (ends (c.settle.ensures.moments t1)) same (settled_only (g.F.Folder.world c.args.folder.now).story.now (g.F.Folder.world c.settle.new.folder).story.now settled) is_stem stands new made)
     (subst (λ (n : Name). OnOk c.publish.result (new ≡ settled_disk (renamed c.as_str-3.result.now n (synced c.as_str-3.result.now mid)))) c.as_str-4.ensures.value (c.publish.ensures.done t)))
 
-pub returns-clause-refused : goal.returns-clause-refused
-returns-clause-refused g c =
+pub returns-clause-blames : goal.returns-clause-blames
+returns-clause-blames g c =
     let mid = g.F.Folder.world c.settle.new.folder in
     let C = string_bytes c.args.target.now.name in
     let is_stem = c.as_str-3.ensures.value ∙ c.write_stem.ensures.bytes ∙ ap (λ (n : Name). stem_of n 0) c.as_str-2.ensures.value in
     let stands = λ (t1 : IsTrue mid.tells). subst (λ (n : Name). IsSome (mid.story.now.live n)) (sym is_stem)
     (subst (λ (l : Names). IsSome (l (stem_of C 0))) (sym (ap (λ (d : Disk). d.live) (c.in_ok-settle.ensures.done t1))) (c.requires.complete (c.settle.ensures.kept.tells t1) 0 (omega (arith, c.requires.one)))) in
-    if_later _ c.publish.result c.settle.ensures.kept (refusal_of mid _ c.publish.result c.publish.ensures.refused c.publish.ensures.steady stands)
+    own c.publish.result (later _ c.publish.result c.settle.ensures.kept c.in_ok-settle.ensures.blames.calm (blames_of mid _ c.publish.result c.publish.ensures.refused c.publish.ensures.calm c.publish.ensures.steady stands))

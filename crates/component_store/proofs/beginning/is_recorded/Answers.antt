@@ -8,7 +8,7 @@ use Rattle.folder_steps.specs.Reading.{has_bytes}
 use Rattle.folder_steps.proofs.RemovalLemmas.{unchanged}
 use Rattle.plan_record.specs.Names.{record_of, spare_of}
 use Rattle.component_store.proofs.BeginLemmas.{recorded_same, spare_thin, spare_dropped, ok_anyway}
-use Rattle.component_store.proofs.RefuseLemmas.{if_later}
+use Rattle.folder_steps.proofs.RefusalLemmas.{later, own}
 use Rattle.component_store.proofs.beginning.is_recorded.Goals as goal
 
 pub returns-in_default-clause-moments : goal.returns-in_default-clause-moments
@@ -39,5 +39,5 @@ returns-clause-same g c t =
     IfOk-weaker c.holds.result (λ found. found ≡ has_bytes (reads mid c.as_str-2.result.now) c.as_bytes.result.now) (λ found. found ≡ has_bytes (reads old (record_of C)) plan)
     (λ found is. is ∙ same) (c.holds.ensures.told t)
 
-pub returns-clause-refused : goal.returns-clause-refused
-returns-clause-refused g c = if_later _ c.holds.result (c.drop_name.ensures.kept) c.holds.ensures.refused
+pub returns-clause-blames : goal.returns-clause-blames
+returns-clause-blames g c = own c.holds.result (later _ c.holds.result c.drop_name.ensures.kept c.in_ok-drop_name.ensures.blames.calm c.holds.ensures.blames)

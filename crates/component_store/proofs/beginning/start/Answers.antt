@@ -7,7 +7,7 @@ use Rattle.component_store.proofs.BeginLemmas.{begun_step, clear_only, begun_don
 use Rattle.component_store.proofs.LastLemmas.{under_goes, under_started}
 use Rattle.std.proofs.lemmas.Result.{err_from_is_err_and}
 use Rattle.keep_store.specs.TookLaws.{stays_both}
-use Rattle.component_store.proofs.RefuseLemmas.{later, if_later}
+use Rattle.folder_steps.proofs.RefusalLemmas.{later, own, err_later_own}
 use Rattle.component_store.proofs.beginning.start.Goals as goal
 
 pub returns-in_err-clear-clause-moments : goal.returns-in_err-clear-clause-moments
@@ -45,13 +45,13 @@ returns-clause-done g c t =
     begun_done (string_bytes c.args.target.now.name) c.args.target.now.is_final c.args.plan.now (g.F.Folder.world c.args.folder.now).story.now (g.F.Folder.world c.settle.new.folder).story.now (g.F.Folder.world c.replace.new.folder).story.now c.replace.result
     (λ n. ap (λ (d : Disk). d.live n) settled ∙ c.in_ok-clear.ensures.gone t1 n) spare rec c.as_bytes.ensures.value (c.replace.ensures.done t)
 
-pub returns-in_err-settle-clause-refused : goal.returns-in_err-settle-clause-refused
-returns-in_err-settle-clause-refused g c =
+pub returns-in_err-settle-clause-blames : goal.returns-in_err-settle-clause-blames
+returns-in_err-settle-clause-blames g c =
     let p = err_from_is_err_and c.from_residual-in_err-settle.result c.from_residual-in_err-settle.ensures.1 in
-    rw (p.1, p.2) (later (c.clear.ensures.kept) c.in_err-settle.ensures.refused)
+    rw (p.1, p.2) (err_later_own c.clear.ensures.kept c.in_ok-clear.ensures.blames.calm c.in_err-settle.ensures.blames)
 
-pub returns-clause-refused : goal.returns-clause-refused
-returns-clause-refused g c = if_later _ c.replace.result (stays_both c.clear.ensures.kept c.settle.ensures.kept) c.replace.ensures.refused
+pub returns-clause-blames : goal.returns-clause-blames
+returns-clause-blames g c = own c.replace.result (later _ c.replace.result (stays_both c.clear.ensures.kept c.settle.ensures.kept) (c.in_ok-settle.ensures.blames.calm ∙ c.in_ok-clear.ensures.blames.calm) c.replace.ensures.blames)
 
 pub returns-in_err-clear-clause-last : goal.returns-in_err-clear-clause-last
 returns-in_err-clear-clause-last g c t always = c.clear.ensures.last t always

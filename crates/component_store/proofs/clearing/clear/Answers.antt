@@ -7,7 +7,7 @@ use Rattle.component_store.proofs.ClearLemmas.{spare_step, pieces_step, joined_s
 use Rattle.component_store.proofs.LastLemmas.{under_still, under_behind}
 use Rattle.std.proofs.lemmas.Result.{err_from_is_err_and}
 use Rattle.keep_store.specs.TookLaws.{stays_both}
-use Rattle.component_store.proofs.RefuseLemmas.{later, sum_later, if_later}
+use Rattle.folder_steps.proofs.RefusalLemmas.{later, own, own_err_later, err_later_own}
 use Rattle.component_store.proofs.clearing.clear.Goals as goal
 
 pub returns-in_err-drop_name-clause-moments : goal.returns-in_err-drop_name-clause-moments
@@ -83,23 +83,23 @@ returns-clause-gone g c t =
     (c.in_ok-drop_name.ensures.gone t0) (c.in_ok-sweep.ensures.gone t1) (c.in_ok-drop_name-2.ensures.gone t2) (c.in_ok-drop_unless.ensures.gone t3) gone)
     (c.drop_record.ensures.gone t)
 
-pub returns-in_err-sweep-clause-refused : goal.returns-in_err-sweep-clause-refused
-returns-in_err-sweep-clause-refused g c =
+pub returns-in_err-sweep-clause-blames : goal.returns-in_err-sweep-clause-blames
+returns-in_err-sweep-clause-blames g c =
     let p = err_from_is_err_and c.from_residual-in_err-sweep.result c.from_residual-in_err-sweep.ensures.1 in
-    rw (p.1, p.2) (sum_later (c.drop_name.ensures.kept) c.in_err-sweep.ensures.refused)
+    rw (p.1, p.2) (own_err_later c.drop_name.ensures.kept c.in_ok-drop_name.ensures.blames.calm c.in_err-sweep.ensures.blames)
 
-pub returns-in_err-drop_name-2-clause-refused : goal.returns-in_err-drop_name-2-clause-refused
-returns-in_err-drop_name-2-clause-refused g c =
+pub returns-in_err-drop_name-2-clause-blames : goal.returns-in_err-drop_name-2-clause-blames
+returns-in_err-drop_name-2-clause-blames g c =
     let p = err_from_is_err_and c.from_residual-in_err-drop_name-2.result c.from_residual-in_err-drop_name-2.ensures.1 in
-    rw (p.1, p.2) (later (stays_both c.drop_name.ensures.kept c.sweep.ensures.kept) c.in_err-drop_name-2.ensures.refused)
+    rw (p.1, p.2) (err_later_own (stays_both c.drop_name.ensures.kept c.sweep.ensures.kept) (c.in_ok-sweep.ensures.blames.calm ∙ c.in_ok-drop_name.ensures.blames.calm) c.in_err-drop_name-2.ensures.blames)
 
-pub returns-in_err-drop_unless-clause-refused : goal.returns-in_err-drop_unless-clause-refused
-returns-in_err-drop_unless-clause-refused g c =
+pub returns-in_err-drop_unless-clause-blames : goal.returns-in_err-drop_unless-clause-blames
+returns-in_err-drop_unless-clause-blames g c =
     let p = err_from_is_err_and c.from_residual-in_err-drop_unless.result c.from_residual-in_err-drop_unless.ensures.1 in
-    rw (p.1, p.2) (later (stays_both (stays_both c.drop_name.ensures.kept c.sweep.ensures.kept) c.drop_name-2.ensures.kept) c.in_err-drop_unless.ensures.refused)
+    rw (p.1, p.2) (err_later_own (stays_both (stays_both c.drop_name.ensures.kept c.sweep.ensures.kept) c.drop_name-2.ensures.kept) (c.in_ok-drop_name-2.ensures.blames.calm ∙ c.in_ok-sweep.ensures.blames.calm ∙ c.in_ok-drop_name.ensures.blames.calm) c.in_err-drop_unless.ensures.blames)
 
-pub returns-clause-refused : goal.returns-clause-refused
-returns-clause-refused g c = if_later _ c.drop_record.result (stays_both (stays_both (stays_both c.drop_name.ensures.kept c.sweep.ensures.kept) c.drop_name-2.ensures.kept) c.drop_unless.ensures.kept) c.drop_record.ensures.refused
+pub returns-clause-blames : goal.returns-clause-blames
+returns-clause-blames g c = own c.drop_record.result (later _ c.drop_record.result (stays_both (stays_both (stays_both c.drop_name.ensures.kept c.sweep.ensures.kept) c.drop_name-2.ensures.kept) c.drop_unless.ensures.kept) (c.in_ok-drop_unless.ensures.blames.calm ∙ c.in_ok-drop_name-2.ensures.blames.calm ∙ c.in_ok-sweep.ensures.blames.calm ∙ c.in_ok-drop_name.ensures.blames.calm) c.drop_record.ensures.blames)
 
 pub returns-in_err-drop_name-clause-last : goal.returns-in_err-drop_name-clause-last
 returns-in_err-drop_name-clause-last g c t always =

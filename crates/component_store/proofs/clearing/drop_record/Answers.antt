@@ -5,7 +5,7 @@ use Rattle.folder_base.proofs.Moments.{begun, joined, weaker}
 use Rattle.folder_steps.proofs.RemovalLemmas.{as_it_was, thin_runs}
 use Rattle.component_store.proofs.LastLemmas.{behind_settled}
 use Rattle.std.proofs.lemmas.Result.{err_from_is_err_and}
-use Rattle.keep_store.specs.TookLaws.{refusal_later}
+use Rattle.folder_steps.proofs.RefusalLemmas.{err_later}
 use Rattle.component_store.proofs.clearing.drop_record.Goals as goal
 
 pub returns-then-stays-clause-behind : goal.returns-then-stays-clause-behind
@@ -28,10 +28,10 @@ returns-in_err-drop_name-clause-behind g c t =
     joined (weaker (c.settle.ensures.moments t1) (λ image h. inl h))
     (weaker (c.drop_name.ensures.moments t) (λ image h. behind_settled c.args.name.now (g.F.Folder.world c.args.folder.now).story.now (g.F.Folder.world c.settle.new.folder).story.now (c.in_ok-settle.ensures.done t1) image h))
 
-pub returns-in_err-drop_name-clause-refused : goal.returns-in_err-drop_name-clause-refused
-returns-in_err-drop_name-clause-refused g c =
+pub returns-in_err-drop_name-clause-blames : goal.returns-in_err-drop_name-clause-blames
+returns-in_err-drop_name-clause-blames g c =
     let p = err_from_is_err_and c.from_residual-in_err-drop_name.result c.from_residual-in_err-drop_name.ensures.1 in
-    rw (p.1, p.2) (refusal_later c.settle.ensures.kept c.in_err-drop_name.ensures.refused)
+    rw (p.1, p.2) (err_later c.settle.ensures.kept c.in_ok-settle.ensures.blames.calm c.in_err-drop_name.ensures.blames)
 
 pub returns-clause-moments : goal.returns-clause-moments
 returns-clause-moments g c t =

@@ -9,8 +9,8 @@ use Rattle.plan_record.specs.Names.{joined_of, stem_of}
 use Rattle.component_store.proofs.FamilyLemmas.{joined_stem}
 use Rattle.component_store.proofs.JoinLemmas.{none_joined, complete_same, publishes_joined, is_joined}
 use Rattle.std.proofs.lemmas.Result.{err_from_is_err_and}
-use Rattle.keep_store.specs.TookLaws.{stays_both, refusal_later}
-use Rattle.folder_steps.proofs.RefusalLemmas.{refused_later}
+use Rattle.keep_store.specs.TookLaws.{stays_both}
+use Rattle.folder_steps.proofs.RefusalLemmas.{later, err_later}
 use Rattle.component_store.proofs.joining.join.Goals as goal
 
 pub make-requires-clause-free : goal.make-requires-clause-free
@@ -65,10 +65,10 @@ returns-clause-done g c t =
     let made = none_joined C _ _ (c.as_str.ensures.value ∙ c.args.target.now.joined_is) (c.in_ok-make.ensures.made t1) in
     is_joined C c.args.target.now.count (g.F.Folder.world c.args.folder.now).story.now (g.F.Folder.world c.pour_all.new.folder).story.now (g.F.Folder.world c.publish_new.new.folder).story.now c.publish_new.result (c.as_str-2.ensures.value ∙ c.args.target.now.joined_is) c.as_str-3.ensures.value (c.in_ok-pour_all.ensures.poured t2 _ made) (c.publish_new.ensures.done t)
 
-pub returns-in_err-pour_all-clause-refused : goal.returns-in_err-pour_all-clause-refused
-returns-in_err-pour_all-clause-refused g c =
+pub returns-in_err-pour_all-clause-blames : goal.returns-in_err-pour_all-clause-blames
+returns-in_err-pour_all-clause-blames g c =
     let p = err_from_is_err_and c.from_residual-in_err-pour_all.result c.from_residual-in_err-pour_all.ensures.1 in
-    rw (p.1, p.2) (refusal_later (c.make.ensures.kept) c.in_err-pour_all.ensures.refused)
+    rw (p.1, p.2) (err_later c.make.ensures.kept c.in_ok-make.ensures.blames.calm c.in_err-pour_all.ensures.blames)
 
-pub returns-clause-refused : goal.returns-clause-refused
-returns-clause-refused g c = refused_later _ c.publish_new.result (stays_both c.make.ensures.kept c.pour_all.ensures.kept) c.publish_new.ensures.refused
+pub returns-clause-blames : goal.returns-clause-blames
+returns-clause-blames g c = later _ c.publish_new.result (stays_both c.make.ensures.kept c.pour_all.ensures.kept) (c.in_ok-pour_all.ensures.blames.calm ∙ c.in_ok-make.ensures.blames.calm) c.publish_new.ensures.blames

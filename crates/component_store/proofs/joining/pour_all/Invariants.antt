@@ -1,4 +1,4 @@
-use Rattle.std.proofs.Common.{◌≤◌, ◌+◌, [], IsTrue, length}
+use Rattle.std.proofs.Common.{◌≡◌, ◌≤◌, ◌+◌, [], IsTrue, length}
 use Rattle.std.specs.Prelude.{IsSome, string_bytes}
 use Rattle.std.specs.String.{string_capacity}
 use Rattle.folder_base.specs.Disk.{Disk}
@@ -11,6 +11,7 @@ use Rattle.component_store.proofs.joining.pour_all.Given as goal
 abbrev pub invariant-loop-piece : goal.invariant-loop-piece
 invariant-loop-piece g l = record {
   kept : Stays (g.F.Folder.world l.fn.folder) (g.F.Folder.world l.folder);
+  calm : (g.F.Folder.world l.folder).faults ≡ (g.F.Folder.world l.fn.folder).faults;
   room : length (string_bytes l.target.name) + 52 ≤ string_capacity l.stem;
   complete : IsTrue (g.F.Folder.world l.folder).tells → AllComplete (string_bytes l.target.name) l.target.count (g.F.Folder.world l.folder).story.now.live;
   stands : IsTrue (g.F.Folder.world l.folder).tells → IsSome ((g.F.Folder.world l.folder).story.now.live (joined_of (string_bytes l.target.name)));

@@ -11,7 +11,7 @@ use Rattle.component_turn.proofs.making.make_component.Goals as goal
 pub returns-in_err-begun-clause-turned : goal.returns-in_err-begun-clause-turned
 returns-in_err-begun-clause-turned g c =
     let p = err_from_is_err_and c.from_residual.result c.from_residual.ensures.1 in
-    rw (p.1, p.2) (begin_failed g.D.Dialer.wire c.args.component.now c.args.settings (g.F.Folder.world c.args.folder.now) (g.F.Folder.world c.begin.new.folder) c.begin.ensures.kept _ (take (workers_for c.args.component.now c.args.settings) c.args.dialers.now.items) c.in_err-begun.ensures.refused
+    rw (p.1, p.2) (begin_failed g.D.Dialer.wire c.args.component.now c.args.settings (g.F.Folder.world c.args.folder.now) (g.F.Folder.world c.begin.new.folder) c.begin.ensures.kept _ (take (workers_for c.args.component.now c.args.settings) c.args.dialers.now.items) c.in_err-begun.ensures.blames.cause
     (began_as c.args.component.now.target_is (c.as_str.ensures.value ∙ c.args.component.now.plan_is) (record { moments = c.begin.ensures.moments; sound = c.begin.ensures.sound; answer = c.in_err-begun.ensures.answer; live = c.in_err-begun.ensures.live; in_all = c.in_err-begun.ensures.in_all })))
 
 pub returns-in-Complete-clause-turned : goal.returns-in-Complete-clause-turned
@@ -24,7 +24,7 @@ returns-in_err-settle-clause-turned g c =
     let p = err_from_is_err_and c.from_residual-in_err-settle.result c.from_residual-in_err-settle.ensures.1 in
     rw (p.1, p.2) (settle_failed g.D.Dialer.wire c.args.component.now c.args.settings (g.F.Folder.world c.args.folder.now) (g.F.Folder.world c.begin.new.folder) c.begin.ensures.kept (g.F.Folder.world c.settle.new.folder)
     (began_is c.in_default.is (began_as c.args.component.now.target_is (c.as_str.ensures.value ∙ c.args.component.now.plan_is) (record { moments = c.begin.ensures.moments; sound = c.begin.ensures.sound; answer = c.in_ok-begun.ensures.answer; live = c.in_ok-begun.ensures.live; in_all = c.in_ok-begun.ensures.in_all })))
-    c.settle.ensures.kept c.settle.ensures.moments _ (take (workers_for c.args.component.now c.args.settings) c.args.dialers.now.items) c.in_err-settle.ensures.refused)
+    c.settle.ensures.kept c.settle.ensures.moments _ (take (workers_for c.args.component.now c.args.settings) c.args.dialers.now.items) c.in_err-settle.ensures.blames.cause)
 
 pub returns-in_err-ends-clause-turned : goal.returns-in_err-ends-clause-turned
 returns-in_err-ends-clause-turned g c =
@@ -61,7 +61,7 @@ returns-in_err-settled-clause-turned g c =
     (take (workers_for c.args.component.now c.args.settings) c.fetch_pieces.new.dialers.items)
     (crews_by c.args.dialers.now.items c.fetch_pieces.new.dialers.items (omega (arith, c.min-workers.ensures, c.len.ensures, c.args.component.now.pieces.ok.0)) c.in_ok-ends.ensures.fetched)
     (g.F.Folder.world c.settle-settled.new.folder) c.settle-settled.ensures.kept c.settle-settled.ensures.moments _ _
-    (ap judged (sym c.as_slice.ensures.value) ∙ sym c.in_ok-end.ensures) c.in_err-settled.ensures.refused)
+    (ap judged (sym c.as_slice.ensures.value) ∙ sym c.in_ok-end.ensures) c.in_err-settled.ensures.blames.cause)
 
 pub returns-in-Failed-clause-turned : goal.returns-in-Failed-clause-turned
 returns-in-Failed-clause-turned g c =
@@ -88,7 +88,7 @@ returns-in_err-assemble-clause-turned g c =
     (g.F.Folder.world c.settle-settled.new.folder) c.settle-settled.ensures.kept c.settle-settled.ensures.moments
     (ap judged (sym c.as_slice.ensures.value) ∙ sym c.in_ok-end.ensures ∙ ap ended c.in_default-end.is) (g.F.Folder.world c.assemble.new.folder) c.assemble.ensures.kept
     (puts_as c.args.component.now.target_is c.args.component.now.count_is (record { moments = c.assemble.ensures.moments; sound = c.assemble.ensures.sound }))
-    _ c.in_err-assemble.ensures.refused)
+    _ c.in_err-assemble.ensures.blames.cause)
 
 pub returns-clause-turned : goal.returns-clause-turned
 returns-clause-turned g c =

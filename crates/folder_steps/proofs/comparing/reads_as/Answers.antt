@@ -1,11 +1,13 @@
 use Rattle.std.proofs.Common.{◌≡◌, ◌∙◌, ap, sym, subst, arith, false, length}
 use Rattle.std.specs.Prelude.{Some, option_map}
+use Rattle.std.proofs.lemmas.Result.{err_from_is_err_and}
 use Rattle.folder_base.specs.Disk.{File, content}
 use Rattle.folder_base.specs.Story.{Story}
 use Rattle.keep_store.specs.Safe.{reads}
 use Rattle.keep_store.specs.TookLaws.{stays_both}
 use Rattle.folder_steps.specs.Reading.{has_bytes}
 use Rattle.folder_steps.proofs.ReadingLemmas.{more_there, differs_there, read_on, same_to_end, tested, none_there}
+use Rattle.folder_steps.proofs.RefusalLemmas.{err_later}
 use Rattle.folder_steps.proofs.comparing.reads_as.Goals as goal
 
 pub returns-clause-told : goal.returns-clause-told
@@ -34,9 +36,15 @@ loop-at-preserved g c = record {
     stays = stays_both c.loop-at.invariant.looked.stays c.read_some.ensures.looked.stays;
     same = λ t. c.read_some.ensures.looked.same t ∙ c.loop-at.invariant.looked.same (c.read_some.ensures.looked.stays.tells t);
   };
+  calm = c.in_ok-piece.ensures.blames.calm ∙ c.loop-at.invariant.calm;
   within = let short = c.in_ok-piece.ensures.short in let below = c.loop-at-test.true in omega (arith, short, below);
   same = λ t file is. let t0 = c.read_some.ensures.looked.stays.tells t in
       let here = ap (λ (s : Story). s.now.live c.args.name.now) (c.loop-at.invariant.looked.same t0) in
       let yes = tested c.args.bytes.now c.in_ok-piece.piece.now c.loop-at.at c.starts_with.result c.starts_with.ensures.value ∙ c.if-not-starts_with.false in
       read_on _ c.args.bytes.now c.in_ok-piece.piece.now c.loop-at.at (c.in_ok-piece.ensures.told t) yes (λ f e. c.loop-at.invariant.same t0 f (sym here ∙ e)) file (here ∙ is);
 }
+
+pub returns-in_err-piece-clause-blames : goal.returns-in_err-piece-clause-blames
+returns-in_err-piece-clause-blames g c =
+    let p = err_from_is_err_and c.from_residual.result c.from_residual.ensures.1 in
+    rw (p.1, p.2) (err_later c.loop-at.invariant.looked.stays c.loop-at.invariant.calm c.in_err-piece.ensures.blames)

@@ -8,6 +8,7 @@ use Rattle.folder_steps.proofs.pouring.pour.Given as goal
 abbrev pub invariant-loop-at : goal.invariant-loop-at
 invariant-loop-at g l = record {
   kept : Stays (g.F.Folder.world l.fn.folder) (g.F.Folder.world l.folder);
+  calm : (g.F.Folder.world l.folder).faults ≡ (g.F.Folder.world l.fn.folder).faults;
   within : l.at ≤ l.size;
   sized : IsTrue (g.F.Folder.world l.folder).tells → (file : File) → (g.F.Folder.world l.fn.folder).story.now.live l.from ≡ Some file → length (content file) ≡ l.size;
   others : IsTrue (g.F.Folder.world l.folder).tells → (other : List ℕ) → bytes_eq l.to other ≡ false → (g.F.Folder.world l.folder).story.now.live other ≡ (g.F.Folder.world l.fn.folder).story.now.live other;

@@ -6,6 +6,7 @@ use Rattle.folder_base.specs.Story.{Story}
 use Rattle.keep_store.proofs.Found.{stays_read}
 use Rattle.keep_store.specs.TookLaws.{stays_both}
 use Rattle.folder_steps.proofs.ReadingLemmas.{room_same, front_more}
+use Rattle.folder_steps.proofs.RefusalLemmas.{read_calm}
 use Rattle.folder_steps.proofs.reading.read_front.Goals as goal
 
 pub loop-at-preserved : goal.loop-at-preserved
@@ -18,6 +19,7 @@ loop-at-preserved g c =
         stays = stays_both c.loop-at.invariant.looked.stays (stays_read c.read_at.ensures.cause);
         same = λ t. c.read_at.ensures.cause.same.story t ∙ c.loop-at.invariant.looked.same (c.read_at.ensures.cause.tells t);
       };
+      calm = read_calm c.in-Ok.ensures.cause ∙ c.loop-at.invariant.calm;
       within = omega (arith, fits, same, long);
       read = λ t file is.
           let t0 = c.read_at.ensures.cause.tells t in

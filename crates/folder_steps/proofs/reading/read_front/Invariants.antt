@@ -7,6 +7,7 @@ use Rattle.folder_steps.proofs.reading.read_front.Given as goal
 abbrev pub invariant-loop-at : goal.invariant-loop-at
 invariant-loop-at g l = record {
   looked : Looked (g.F.Folder.world l.fn.folder) (g.F.Folder.world l.folder);
+  calm : (g.F.Folder.world l.folder).faults ≡ (g.F.Folder.world l.fn.folder).faults;
   within : l.at ≤ length l.bytes;
   read : IsTrue (g.F.Folder.world l.folder).tells → (file : File) → (g.F.Folder.world l.fn.folder).story.now.live l.name ≡ Some file → take l.at l.bytes ≡ take l.at (content file);
 }

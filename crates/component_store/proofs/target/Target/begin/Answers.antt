@@ -13,7 +13,7 @@ use Rattle.component_store.proofs.SoundLemmas.{thin_sound, starting_sound}
 use Rattle.component_store.proofs.BeginLemmas.{beginning_anew, starting_after, started_names, goes_on_all, goes_by_record, anew_in_all, ok_anyway}
 use Rattle.component_store.proofs.LastLemmas.{under_thin}
 use Rattle.std.proofs.lemmas.Result.{err_from_is_err_and}
-use Rattle.component_store.proofs.RefuseLemmas.{sum_later, if_later}
+use Rattle.folder_steps.proofs.RefusalLemmas.{later, own, own_err_later}
 use Rattle.component_store.proofs.target.Target.begin.Goals as goal
 
 pub returns-in_err-goes-clause-moments : goal.returns-in_err-goes-clause-moments
@@ -110,13 +110,13 @@ returns-clause-live g c t =
 pub returns-clause-in_all : goal.returns-clause-in_all
 returns-clause-in_all g c t = anew_in_all (string_bytes c.args.self.now.name) c.args.self.now.is_final c.args.plan.now (g.F.Folder.world c.args.folder.now).story.now (g.F.Folder.world c.goes_on.new.folder).story.now (g.F.Folder.world c.start.new.folder).story.now (c.in_ok-start.ensures.done t) _
 
-pub returns-in_err-start-clause-refused : goal.returns-in_err-start-clause-refused
-returns-in_err-start-clause-refused g c =
+pub returns-in_err-start-clause-blames : goal.returns-in_err-start-clause-blames
+returns-in_err-start-clause-blames g c =
     let p = err_from_is_err_and c.from_residual-in_err-start.result c.from_residual-in_err-start.ensures.1 in
-    rw (p.1, p.2) (sum_later (c.goes_on.ensures.kept) c.in_err-start.ensures.refused)
+    rw (p.1, p.2) (own_err_later c.goes_on.ensures.kept c.in_ok-goes.ensures.blames.calm c.in_err-start.ensures.blames)
 
-pub returns-then-goes-clause-refused : goal.returns-then-goes-clause-refused
-returns-then-goes-clause-refused g c = if_later _ c.as_it_stands.result (c.goes_on.ensures.kept) c.as_it_stands.ensures.refused
+pub returns-then-goes-clause-blames : goal.returns-then-goes-clause-blames
+returns-then-goes-clause-blames g c = own c.as_it_stands.result (later _ c.as_it_stands.result c.goes_on.ensures.kept c.in_ok-goes.ensures.blames.calm c.as_it_stands.ensures.blames)
 
 pub returns-in_err-goes-clause-last : goal.returns-in_err-goes-clause-last
 returns-in_err-goes-clause-last g c t always =

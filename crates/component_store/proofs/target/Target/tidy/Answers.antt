@@ -12,7 +12,7 @@ use Rattle.component_store.proofs.TidyLemmas.{none_names, cleared_names, cleared
 use Rattle.component_store.proofs.LastLemmas.{under_same, under_from}
 use Rattle.std.proofs.lemmas.Result.{err_from_is_err_and}
 use Rattle.keep_store.specs.TookLaws.{stays_both}
-use Rattle.component_store.proofs.RefuseLemmas.{later, if_sum_later}
+use Rattle.folder_steps.proofs.RefusalLemmas.{own_later, err_later_own}
 use Rattle.component_store.proofs.target.Target.tidy.Goals as goal
 
 pub returns-in_err-recorded-clause-moments : goal.returns-in_err-recorded-clause-moments
@@ -82,13 +82,13 @@ returns-clause-live g c t =
     ∙ ap (λ (s : Story). if is_cleared C (final || c.args.keep) c.in_ok-its_record.its_record n then None else s.now.live n) same2))
     (c.clear.ensures.gone t)
 
-pub returns-in_err-its_record-clause-refused : goal.returns-in_err-its_record-clause-refused
-returns-in_err-its_record-clause-refused g c =
+pub returns-in_err-its_record-clause-blames : goal.returns-in_err-its_record-clause-blames
+returns-in_err-its_record-clause-blames g c =
     let p = err_from_is_err_and c.from_residual-in_err-its_record.result c.from_residual-in_err-its_record.ensures.1 in
-    rw (p.1, p.2) (later (c.is_there.ensures.looked.stays) c.in_err-its_record.ensures.refused)
+    rw (p.1, p.2) (err_later_own c.is_there.ensures.looked.stays c.in_ok-recorded.ensures.blames.calm c.in_err-its_record.ensures.blames)
 
-pub returns-clause-refused : goal.returns-clause-refused
-returns-clause-refused g c = if_sum_later _ c.clear.result (stays_both c.is_there.ensures.looked.stays c.keeps_record.ensures.looked.stays) c.clear.ensures.refused
+pub returns-clause-blames : goal.returns-clause-blames
+returns-clause-blames g c = own_later _ c.clear.result (stays_both c.is_there.ensures.looked.stays c.keeps_record.ensures.looked.stays) (c.in_ok-its_record.ensures.blames.calm ∙ c.in_ok-recorded.ensures.blames.calm) c.clear.ensures.blames
 
 pub returns-in_err-recorded-clause-last : goal.returns-in_err-recorded-clause-last
 returns-in_err-recorded-clause-last g c t always = under_same (string_bytes c.args.self.now.name) (c.args.self.now.is_final || c.args.keep) (c.is_there.ensures.looked.same t) always
