@@ -1,18 +1,40 @@
 -- Why a line was not added, and what the archive has then.
-use Rattle.std.proofs.Common.{◌≡◌, Bool, true, false, refl, sym, ◌∙◌, ap}
+use Rattle.std.proofs.Common.{◌≡◌, ◌⊎◌, inl, inr, Bool, true, false, refl, sym, ◌∙◌, ap, IsTrue}
 use Rattle.std.specs.Prelude.{◌||◌, bytes_eq, cond, Result, Ok, Err, OnErr}
 use Rattle.std.proofs.lemmas.Slice.Eq.{bytes_eq-Decides}
-use Rattle.folder_base.specs.Disk.{Bytes}
+use Rattle.text_base.specs.declared.faults.FolderCall.{FolderCall}
+use Rattle.folder_base.specs.Disk.{Name, Bytes}
 use Rattle.folder_base.specs.Story.{World}
 use Rattle.folder_base.specs.declared.store_fault.StoreFault.{StoreFault}
 use Rattle.folder_base.specs.declared.store_fault.StoreFault.TheVariants.{Folder, OutOfMemory}
 use Rattle.keep_store.specs.Lane.{IsRefusal}
-use Rattle.archive_store.specs.Causes.{of_store, IsAddFault}
+use Rattle.folder_steps.specs.Blames.{BlamesMemory}
+use Rattle.archive_store.specs.Adding.{bytes_at}
+use Rattle.archive_store.specs.Causes.{of_store, NoneFailed, IsBytesFault, IsReadFault, IsAddFault}
+use Rattle.archive_store.specs.Lines.{bad_line}
+use Rattle.archive_store.specs.declared.archive_fault.ArchiveFault.{ArchiveFault}
+use Rattle.archive_store.specs.declared.archive_fault.ArchiveFault.TheVariants as archive
 
--- a refusal of the store, as the archive tells it
-pub add_refused : (old new : World) (fault : StoreFault) → IsRefusal old new fault → IsAddFault old new (of_store fault)
-add_refused old new (Folder call) is = is
-add_refused old new OutOfMemory is = tt
+-- the fault of the folder that a refusal names
+refusal_of : {old new : World} {call : FolderCall} → (Folder call ≡ OutOfMemory) ⊎ IsRefusal old new (Folder call) → IsRefusal old new (Folder call)
+refusal_of (inl none) = absurd (cc)
+refusal_of (inr is) = is
+
+-- A refusal of the store, as the archive tells it: of the adding of a line,
+pub add_refused : {T : Type 0} (old new : World) (fault : StoreFault) → BlamesMemory {T = T} old new (Err fault) → IsAddFault old new (of_store fault)
+add_refused old new (Folder call) is = refusal_of is.cause
+add_refused old new OutOfMemory is = is.calm
+
+-- and of a reading;
+pub read_refused : {T : Type 0} (name : Name) (old new : World) (fault : StoreFault) → BlamesMemory {T = T} old new (Err fault) → IsReadFault name old new (of_store fault)
+read_refused name old new (Folder call) is = refusal_of is.cause
+read_refused name old new OutOfMemory is = is.calm
+
+-- and what the bytes are refused for that were read.
+pub bytes_refused : (name : Name) (old new : World) (bytes : Bytes) (fault : ArchiveFault) → NoneFailed old new → (IsTrue new.tells → bytes ≡ bytes_at old.story.now name) → IsBytesFault bytes fault → IsReadFault name old new fault
+bytes_refused name old new bytes (archive.Folder call) calm read is = absurd is
+bytes_refused name old new bytes (archive.BadText line) calm read is = (calm, λ t. ap bad_line (sym (read t)) ∙ is)
+bytes_refused name old new bytes archive.OutOfMemory calm read is = calm
 
 -- A line that was put among others is taken out again.
 pub taken_back : (line other : Bytes) (was : Bytes → Bool) (mid now : Bool) → was line ≡ false → mid ≡ (bytes_eq line other || was other) → now ≡ cond (bytes_eq line other) false mid → now ≡ was other

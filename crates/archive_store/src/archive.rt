@@ -20,13 +20,13 @@ pub struct Archive {
 }
 
 impl Archive {
-    ghost use Rattle.std.specs.Prelude.{IsTrue, IfOk, IfErr, OnOk, OnErr, Ok, true, false};
+    ghost use Rattle.std.specs.Prelude.{IsTrue, IfOk, OnOk, OnErr, Ok, true, false};
     ghost use Rattle.folder_base.specs.Story.{Through, IsWhole};
     ghost use Rattle.keep_store.specs.Opening.{Looked};
     ghost use Rattle.keep_store.specs.Publish.{Stays};
     ghost use Rattle.archive_store.specs.Adding.{bytes_at, IsAdding, IsAdded};
     ghost use Rattle.archive_store.specs.Archive.{name_of, has_line, HasRead, HasAlso, HasSame};
-    ghost use Rattle.archive_store.specs.Causes.{IsReadFault, IsAddFault};
+    ghost use Rattle.archive_store.specs.Causes.{BlamesRead, BlamesAdd};
     ghost use Rattle.archive_store.specs.Lines.{is_line};
 
     /// The archive in this file. One that does not stand has no line.
@@ -37,8 +37,7 @@ impl Archive {
     ) -> Result<Archive, ArchiveFault>
         requires { IsTrue (F.world folder.old).tells → IsWhole (F.world folder.old) }
         ensures looked { Looked (F.world folder.old) (F.world folder.new) }
-        ensures refused { IfErr result
-            (IsReadFault name.now (F.world folder.old) (F.world folder.new)) }
+        ensures blames { BlamesRead name.now (F.world folder.old) (F.world folder.new) result }
         ensures named { IfOk result (λ archive. name_of archive ≡ name.now) }
         ensures told { IsTrue (F.world folder.new).tells
             → IfOk result (HasRead (bytes_at (F.world folder.old).story.now name.now)) }
@@ -71,7 +70,7 @@ impl Archive {
         requires whole { IsTrue (F.world folder.old).tells → IsWhole (F.world folder.old) }
         requires line { is_line line.now ≡ true }
         ensures kept { Stays (F.world folder.old) (F.world folder.new) }
-        ensures refused { IfErr result (IsAddFault (F.world folder.old) (F.world folder.new)) }
+        ensures blames { BlamesAdd (F.world folder.old) (F.world folder.new) result }
         ensures known { has_line self.old line.now ≡ true
             → (result ≡ Ok tt) × (F.world folder.new ≡ F.world folder.old) }
         ensures moments { IsTrue (F.world folder.new).tells

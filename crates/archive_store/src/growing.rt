@@ -1,11 +1,11 @@
 //! Writes an archive anew with a line more.
-ghost use Rattle.std.specs.Prelude.{◌≡◌, IsTrue, IfOk, IfErr, OnOk};
+ghost use Rattle.std.specs.Prelude.{◌≡◌, IsTrue, IfOk, OnOk};
 ghost use Rattle.folder_base.specs.Story.{Through, IsWhole};
-ghost use Rattle.keep_store.specs.Lane.{IsRefusal};
 ghost use Rattle.keep_store.specs.Publish.{Stays};
+ghost use Rattle.folder_steps.specs.Blames.{Blames};
 ghost use Rattle.folder_steps.specs.Make.{IsReplacing, IsReplaced};
 ghost use Rattle.archive_store.specs.Adding.{spare_of, IsAdding, IsAdded};
-ghost use Rattle.archive_store.specs.Causes.{IsAddFault};
+ghost use Rattle.archive_store.specs.Causes.{BlamesAdd};
 ghost use Rattle.archive_store.specs.Lines.{is_ended, grown};
 
 use crate::archive_fault::ArchiveFault;
@@ -45,7 +45,7 @@ fn put_in_place<F: Folder>(
 ) -> Result<(), StoreFault>
     requires { IsTrue (F.world folder.old).tells → IsWhole (F.world folder.old) }
     ensures kept { Stays (F.world folder.old) (F.world folder.new) }
-    ensures refused { IfErr result (IsRefusal (F.world folder.old) (F.world folder.new)) }
+    ensures blames { Blames (F.world folder.old) (F.world folder.new) result }
     ensures moments { IsTrue (F.world folder.new).tells
         → Through (F.world folder.old).story (F.world folder.new).story
         (IsReplacing spare.now name.now bytes.now (F.world folder.old).story.now) }
@@ -69,7 +69,7 @@ pub(crate) fn write_with<F: Folder>(
     requires whole { IsTrue (F.world folder.old).tells → IsWhole (F.world folder.old) }
     requires spare { spare.now ≡ spare_of name.now }
     ensures kept { Stays (F.world folder.old) (F.world folder.new) }
-    ensures refused { IfErr result (IsAddFault (F.world folder.old) (F.world folder.new)) }
+    ensures blames { BlamesAdd (F.world folder.old) (F.world folder.new) result }
     ensures moments { IsTrue (F.world folder.new).tells
         → Through (F.world folder.old).story (F.world folder.new).story
         (IsAdding name.now line.now (F.world folder.old).story.now) }
