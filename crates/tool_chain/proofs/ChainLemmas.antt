@@ -13,6 +13,7 @@ use Rattle.tool_chain.specs.Jobs.{Job, job_of, is_output, is_output_of, OutputsA
 use Rattle.tool_chain.specs.Runs.{Run, Making, Bench, KeepsBench, Starts}
 use Rattle.tool_chain.specs.Chain.{IsGood, Shows, Runs, BlamesFolder, AllMade, AllStand, InputsCome, Chains}
 use Rattle.tool_chain.specs.declared.job.ToolJob.{ToolJob}
+use Rattle.tool_chain.specs.declared.fault.ToolCause.TheVariants.{Start, Status, NoOutput}
 use Rattle.tool_chain.specs.declared.fault.ToolFault.{ToolFault}
 use Rattle.tool_chain.specs.declared.fault.ToolFault.TheVariants.{Tool, Folder, OutOfMemory}
 use Rattle.tool_chain.proofs.StepLemmas.{spares_none, spares_more, spares_both, same_reads, each_of}
@@ -57,7 +58,7 @@ chain_none at bench world = record {
   runs = λ t u. record { added = []; behind = sym (append-nil bench.runs); first = refl; shows = (refl, All-nil IsGood) };
   stand = λ u. All-nil (λ (job : Job). Stands job world.story.now);
   made = λ t u. All-nil (λ (job : Job). OutputIs (bench.make job.args (map (reads world.story.now) job.inputs)) job world.story.now);
-  blames = tt;
+  blames = refl;
   works = λ w s t come. inl refl;
 }
 
@@ -94,7 +95,7 @@ chain_stop at job jobs bench bench' old new fault c = record {
   runs = λ t u. let r = c.runs t u in record { added = r.added; behind = r.behind; first = r.first ∙ by r.added r.first; shows = shows r.added fault r.shows };
   stand = λ u. tt;
   made = λ t u. tt;
-  blames = blames fault c.blames;
+  blames = c.blames;
   works = λ w s t come. c.works w s t (come.0, tt);
 }
   where
@@ -107,9 +108,6 @@ chain_stop at job jobs bench bench' old new fault c = record {
     shows added (Tool step cause) h = h
     shows added (Folder call) h = h
     shows added OutOfMemory h = h
-
-    blames : (f : ToolFault) → BlamesFolder old new (Err f) → BlamesFolder old new (Err f)
-    blames f h = h
 
 -- A good run stands before the runs that show the rest of the answer.
 shows_behind : (at : ℕ) (job : Job) (jobs : List Job) (run : Run) (added : List Run) (result : Answer) → IsGood run → Shows (at + 1) jobs added result → Shows at (job ∷ jobs) (run ∷ added) result
@@ -183,7 +181,7 @@ module _ (at : ℕ) (job : Job) (jobs : List Job) {b0 b1 b2 : Bench} {w0 w1 w2 :
     runs = λ t u. runs_behind at job jobs b0.runs b1.runs b2.runs result (a.runs (b.starts.keeps.tells t) (b.spares.stays.tells u)) (b.runs t u);
     stand = λ u. stand result (b.stand u) (b.spares.others u) (a.stand (b.spares.stays.tells u));
     made = λ t u. by result (b.made t u) (b.spares.others u) (a.made (b.starts.keeps.tells t) (b.spares.stays.tells u));
-    blames = blames result b.blames;
+    blames = blames result a.blames b.blames;
     works = λ w s t come. b.works (a.starts.keeps.works w) (a.spares.stays.steady s) (a.spares.stays.still_tells t) (comes (a.spares.stays.still_tells t) come);
   }
     where
@@ -195,11 +193,13 @@ module _ (at : ℕ) (job : Job) (jobs : List Job) {b0 b1 b2 : Bench} {w0 w1 w2 :
           (made_before job jobs apart b0.make w1.story.now w2.story.now others (All-head (λ (j : Job). OutputIs (b0.make j.args (map (reads w1.story.now) j.inputs)) j w1.story.now) job [] first))
           (subst (λ (make : Making). AllMade make jobs w2.story.now) a.starts.keeps.make rest)
 
-      blames : (r : Answer) → BlamesFolder w1 w2 r → BlamesFolder w0 w2 r
-      blames (Ok x) h = tt
-      blames (Err (Tool step cause)) h = tt
-      blames (Err (Folder call)) h = refusal_later a.spares.stays h
-      blames (Err OutOfMemory) h = tt
+      blames : (r : Answer) → w1.faults ≡ w0.faults → BlamesFolder w1 w2 r → BlamesFolder w0 w2 r
+      blames (Ok x) calm h = h ∙ calm
+      blames (Err (Tool step Start)) calm h = tt
+      blames (Err (Tool step (Status code))) calm h = tt
+      blames (Err (Tool step NoOutput)) calm h = h ∙ calm
+      blames (Err (Folder call)) calm h = refusal_later a.spares.stays h
+      blames (Err OutOfMemory) calm h = h ∙ calm
 
       stand : (r : Answer) → OnOk r (AllStand jobs w2.story.now) → ((n : Name) → is_output_of jobs n ≡ false → w2.story.now.live n ≡ w1.story.now.live n)
           → AllStand (job ∷ []) w1.story.now → OnOk r (AllStand (job ∷ jobs) w2.story.now)

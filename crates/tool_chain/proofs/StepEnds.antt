@@ -12,10 +12,12 @@ use Rattle.keep_store.specs.Lane.{IsRefusal}
 use Rattle.keep_store.specs.Opening.{Looked}
 use Rattle.keep_store.specs.Safe.{reads}
 use Rattle.keep_store.specs.TookLaws.{refusal_later}
+use Rattle.folder_steps.specs.Blames.{Blames}
+use Rattle.folder_steps.proofs.RefusalLemmas.{err_later}
 use Rattle.text_base.specs.declared.faults.FolderFault.{FolderFault}
 use Rattle.text_base.specs.declared.faults.FolderFault.TheVariants.{Failed, OutOfMemory as NoMemory}
 use Rattle.tool_chain.specs.Jobs.{Job, is_output, is_output_of, leaves, OutputsApart, OutputIs}
-use Rattle.tool_chain.specs.Runs.{Run, Bench, Starts, Spares, IsRunOf, status_of, Adds, Works}
+use Rattle.tool_chain.specs.Runs.{Run, Bench, Starts, Spares, HidesNone, IsRunOf, status_of, Adds, Works}
 use Rattle.tool_chain.specs.Chain.{tool_fault, IsGood, IsCause, Shows, Runs, IsStart, BlamesFolder, InputsCome, Chains}
 use Rattle.tool_chain.specs.declared.fault.ToolFault.{ToolFault}
 use Rattle.tool_chain.specs.declared.fault.ToolFault.TheVariants.{Tool, OutOfMemory}
@@ -62,28 +64,28 @@ module _ (at : ℕ) (job : Job) where
   not_start (StoreFolder call) none = none
   not_start StoreMemory none = none
 
-  blames_fault : (old new : World) (fault : StoreFault) → IsRefusal old new fault → BlamesFolder old new (Err (tool_fault fault))
-  blames_fault old new (StoreFolder call) is = is
-  blames_fault old new StoreMemory is = tt
+  blames_fault : {T : Type 0} (old new : World) (fault : StoreFault) → Blames {T = T} old new (Err fault) → BlamesFolder old new (Err (tool_fault fault))
+  blames_fault old new (StoreFolder call) is = is.cause
+  blames_fault old new StoreMemory is = is.calm
 
   -- A steady folder that tells refuses for want of memory alone.
   only_memory : {old new : World} (fault : StoreFault) → IsRefusal old new fault → IsTrue old.steady → IsTrue old.tells → IsMemory (Err (tool_fault fault))
   only_memory fault is s t = subst (λ (f : StoreFault). IsMemory (Err (tool_fault f))) (sym (is.steady s t)) refl
 
   -- The removal of the output was refused.
-  pub end_uncleared : {bench : Bench} {old new : World} (fault : StoreFault) → Spares (is_output job) old new → IsRefusal old new fault → Chains at (job ∷ []) bench bench old new (Err (tool_fault fault))
-  end_uncleared {bench} {old} {new} fault spares is = record {
+  pub end_uncleared : {T : Type 0} {bench : Bench} {old new : World} (fault : StoreFault) → Spares (is_output job) old new → Blames {T = T} old new (Err fault) → Chains at (job ∷ []) bench bench old new (Err (tool_fault fault))
+  end_uncleared {T} {bench} {old} {new} fault spares is = record {
     starts = starts_none bench (not_start fault);
     spares = spares_job spares;
     runs = λ t u. no_runs fault refl;
     stand = λ u. tt;
     made = λ t u. tt;
     blames = blames_fault old new fault is;
-    works = λ w s t come. inr (only_memory fault is s t);
+    works = λ w s t come. inr (only_memory fault is.cause s t);
   }
 
-  module _ (apart : OutputsApart (job ∷ [])) {b0 b1 : Bench} {w0 w1 w2 : World} (r : Result ℕ FolderFault) (cleared : Spares (is_output job) w0 w1) (free : IsTrue w1.tells → leaves job w1.story.now ≡ false)
-      (starts : Starts (IsErrOf r Failed) b0 b1) (spares : Spares (is_output job) w1 w2) (told : IsTrue b1.tells → Adds (IsRunOf b0.make job w1 w2) (status_of r) b0.runs b1.runs) (works : Works job b0 w1 w2 r) where
+  module _ (apart : OutputsApart (job ∷ [])) {b0 b1 : Bench} {w0 w1 w2 : World} (r : Result ℕ FolderFault) (cleared : Spares (is_output job) w0 w1) (clear : w1.faults ≡ w0.faults) (free : IsTrue w1.tells → leaves job w1.story.now ≡ false)
+      (starts : Starts (IsErrOf r Failed) b0 b1) (spares : Spares (is_output job) w1 w2) (hides : HidesNone w1 w2 r) (told : IsTrue b1.tells → Adds (IsRunOf b0.make job w1 w2) (status_of r) b0.runs b1.runs) (works : Works job b0 w1 w2 r) where
     both : Spares (is_output job) w0 w2
     both = spares_both (is_output job) cleared spares
 
@@ -127,7 +129,7 @@ module _ (at : ℕ) (job : Job) where
       runs = λ t u. no_runs StoreMemory (subst (λ (o : Option (Option ℕ)). Adds (IsRunOf b0.make job w1 w2) o b0.runs b1.runs) (ap status_of is) (told t));
       stand = λ u. tt;
       made = λ t u. tt;
-      blames = tt;
+      blames = hides (inr is) ∙ clear;
       works = λ w s t come. inr refl;
     }
 
@@ -155,6 +157,10 @@ module _ (at : ℕ) (job : Job) where
           value (Err f) = 0
 
       module _ (zero_is : status ≡ 0) {w3 : World} (looked : Looked w2 w3) where
+        -- No call of the folder failed so far.
+        calm : w2.faults ≡ w0.faults
+        calm = hides (inl (is ∙ ap (λ (n : ℕ). Ok n) zero_is)) ∙ clear
+
         good_status : (run : Run) → run.status ≡ Some status → run.status ≡ Some 0
         good_status run e = e ∙ ap (λ (n : ℕ). Some n) zero_is
 
@@ -162,20 +168,20 @@ module _ (at : ℕ) (job : Job) where
         whole = spares_both (is_output job) both (spares_looked (is_output job) looked)
 
         -- The look at the output was refused.
-        pub end_unseen : (fault : StoreFault) → IsRefusal w2 w3 fault → Chains at (job ∷ []) b0 b1 w0 w3 (Err (tool_fault fault))
-        end_unseen fault refused = record {
+        pub end_unseen : {T : Type 0} (fault : StoreFault) → Blames {T = T} w2 w3 (Err fault) → Chains at (job ∷ []) b0 b1 w0 w3 (Err (tool_fault fault))
+        end_unseen {T} fault refused = record {
           starts = not_failed (not_start fault) started;
           spares = spares_job whole;
           runs = λ t u. let run = run_of t in one_run (Err (tool_fault fault)) run.0 run.1.0 run.1.1.1.job_is (shows_zero fault run.0 (good_status run.0 run.1.1.0));
           stand = λ u. tt;
           made = λ t u. tt;
-          blames = blames_fault w0 w3 fault (refusal_later both.stays refused);
-          works = λ w s t come. inr (only_memory fault (refusal_later both.stays refused) s t);
+          blames = blames_fault {T = T} w0 w3 fault (err_later both.stays calm refused);
+          works = λ w s t come. inr (only_memory fault (refusal_later both.stays refused.cause) s t);
         }
 
         -- The child left no output.
-        pub end_unleft : (IsTrue w3.tells → (is_some job.output && not (leaves job w2.story.now)) ≡ true) → Chains at (job ∷ []) b0 b1 w0 w3 (Err (Tool at NoOutput))
-        end_unleft lacks = record {
+        pub end_unleft : w3.faults ≡ w2.faults → (IsTrue w3.tells → (is_some job.output && not (leaves job w2.story.now)) ≡ true) → Chains at (job ∷ []) b0 b1 w0 w3 (Err (Tool at NoOutput))
+        end_unleft seen lacks = record {
           starts = not_failed (λ none. none) started;
           spares = spares_job whole;
           runs = λ t u. let run = run_of t in let facts = none_left (is_some job.output) (leaves job w2.story.now) (lacks u) in
@@ -183,7 +189,7 @@ module _ (at : ℕ) (job : Job) where
               (shows_cause NoOutput run.0 (good_status run.0 run.1.1.0, (subst (λ (j : Job). IsSome j.output) (sym run.1.1.1.job_is) facts.0, run.1.1.1.left (looked.stays.tells u) (inl (good_status run.0 run.1.1.0)) ∙ facts.1)));
           stand = λ u. tt;
           made = λ t u. tt;
-          blames = tt;
+          blames = seen ∙ calm;
           works = λ w s t come. ⊎_elim (λ e. absurd (let x = sym is ∙ e in cc)) (λ done. absurd (unleft (whole.stays.still_tells t) done.1)) (worked w s t come);
         }
           where
@@ -200,15 +206,15 @@ module _ (at : ℕ) (job : Job) where
                 by (Some output) h e = let x = h output refl in cc
 
         -- The step was done.
-        pub end_done : (IsTrue w3.tells → (is_some job.output && not (leaves job w2.story.now)) ≡ false) → Chains at (job ∷ []) b0 b1 w0 w3 (Ok tt)
-        end_done lacks = record {
+        pub end_done : w3.faults ≡ w2.faults → (IsTrue w3.tells → (is_some job.output && not (leaves job w2.story.now)) ≡ false) → Chains at (job ∷ []) b0 b1 w0 w3 (Ok tt)
+        end_done seen lacks = record {
           starts = not_failed (λ none. none) started;
           spares = spares_job whole;
           runs = λ t u. let run = run_of t in one_run (Ok tt) run.0 run.1.0 run.1.1.1.job_is (refl, All-cons IsGood run.0 [] (good run.0 (good_status run.0 run.1.1.0) run.1.1.1 u) (All-nil IsGood));
           stand = λ u. All-cons (λ (j : Job). (output : Name) → j.output ≡ Some output → IsSome (w3.story.now.live output)) job [] (stands u) (All-nil (λ (j : Job). (output : Name) → j.output ≡ Some output → IsSome (w3.story.now.live output)));
           made = λ t u. let run = run_of t in All-cons (λ (j : Job). OutputIs (b0.make j.args (map (reads w3.story.now) j.inputs)) j w3.story.now) job []
               (made_there run.0 (good_status run.0 run.1.1.0) run.1.1.1 u) (All-nil (λ (j : Job). OutputIs (b0.make j.args (map (reads w3.story.now) j.inputs)) j w3.story.now));
-          blames = tt;
+          blames = seen ∙ calm;
           works = λ w s t come. inl refl;
         }
           where

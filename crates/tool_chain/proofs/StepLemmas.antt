@@ -1,6 +1,6 @@
 -- What calls leave of a folder in which some names alone may change.
 use Rattle.std.proofs.Common.{◌≡◌, ⊎_elim, Bool, true, false, IsTrue, List, [], ◌∷◌, map, refl, sym, ◌∙◌, ap}
-use Rattle.std.specs.Prelude.{Option, Some, None, IsSome, is_some, All, Result, option_map, bytes_eq}
+use Rattle.std.specs.Prelude.{Option, Some, None, IsSome, IsNone, is_some, All, Result, option_map, bytes_eq}
 use Rattle.std.specs.Option.{option_map_or}
 use Rattle.std.proofs.lemmas.List.Elements.{All-head, All-tail}
 use Rattle.folder_base.specs.Disk.{Name, File, Disk, Image, May, content, removed}
@@ -81,6 +81,10 @@ stays_by c = record { tells = c.tells; still_tells = c.still_tells; steady = c.s
 -- A name that was seen to stand stands.
 pub seen_there : (there : Bool) (before now : Option File) → there ≡ is_some before → there ≡ true → now ≡ before → IsSome now
 seen_there there before now is stood same = ap (λ (o : Option File). is_some o) same ∙ sym is ∙ stood
+
+-- A name that was seen not to stand is free.
+pub seen_free : (there : Bool) (before now : Option File) → there ≡ is_some before → there ≡ false → now ≡ before → IsNone now
+seen_free there before now is none same = ap (λ (o : Option File). is_some o) same ∙ sym is ∙ none
 
 -- What is not the job's output is not that name.
 pub output_alone : (job : Job) (name : Name) → job.output ≡ Some name → (n : Name) → is_output job n ≡ false → bytes_eq name n ≡ false

@@ -61,12 +61,15 @@ IsStart (Err (Tool step NoOutput)) = ⊥
 IsStart (Err (Folder call)) = ⊥
 IsStart (Err OutOfMemory) = ⊥
 
--- A fault of the folder is of a call that failed in this call, and no steady folder that tells has one.
+-- A fault of the folder is of a call that failed in this call, and no steady folder that tells has one. After Ok, want of memory and an
+-- output that is missing no call of the folder failed.
 abbrev pub BlamesFolder : World → World → Result (Unit {0}) ToolFault → Type 0
-BlamesFolder old new (Ok _) = ⊤
-BlamesFolder old new (Err (Tool step cause)) = ⊤
+BlamesFolder old new (Ok _) = new.faults ≡ old.faults
+BlamesFolder old new (Err (Tool step Start)) = ⊤
+BlamesFolder old new (Err (Tool step (Status code))) = ⊤
+BlamesFolder old new (Err (Tool step NoOutput)) = new.faults ≡ old.faults
 BlamesFolder old new (Err (Folder call)) = IsRefusal old new (StoreFolder call)
-BlamesFolder old new (Err OutOfMemory) = ⊤
+BlamesFolder old new (Err OutOfMemory) = new.faults ≡ old.faults
 
 -- Each output stands with what its tool makes of its arguments and of its inputs as they stand.
 abbrev pub AllMade : Making → List Job → Disk → Type 0

@@ -1,15 +1,15 @@
 -- What tools in memory tell, by what they keep.
-use Rattle.std.specs.Prelude.{◌≡◌, ◌⊎◌, ℕ, Bool, true, false, not, IsTrue, IsSome, IfErr, List, [], ◌∷◌, ◌++◌, map, Option, Some, None, option_map, unwrap_or, slice_get, Vec, Result, Ok, Err}
+use Rattle.std.specs.Prelude.{◌≡◌, ◌⊎◌, ℕ, Bool, true, false, not, IsTrue, IsSome, List, [], ◌∷◌, ◌++◌, map, Option, Some, None, is_none, option_map, unwrap_or, slice_get, Vec, Result, Ok, Err}
 use Rattle.std.specs.List.{list_any}
 use Rattle.std.specs.declared.alloc.Global.{Global}
 use Rattle.text_base.specs.declared.faults.FolderFault.{FolderFault}
 use Rattle.text_base.specs.declared.faults.FolderFault.TheVariants.{Failed, OutOfMemory}
 use Rattle.folder_base.specs.Disk.{Name, Bytes, Disk}
 use Rattle.folder_base.specs.Story.{World}
-use Rattle.folder_base.specs.declared.store_fault.StoreFault.{StoreFault}
-use Rattle.folder_base.specs.declared.store_fault.StoreFault.TheVariants.{OutOfMemory as StoreMemory}
-use Rattle.tool_chain.specs.Jobs.{Job, job_of, CanRun}
+use Rattle.tool_chain.specs.Jobs.{Job, job_of, leaves, OutputIs, CanRun}
 use Rattle.tool_chain.specs.Runs.{Run, Making, Bench}
+use Rattle.tool_chain.specs.declared.act.ChildEnd.{ChildEnd}
+use Rattle.tool_chain.specs.declared.child.Inputs.{Inputs}
 use Rattle.tool_chain.specs.declared.memory.ToolsMem.{ToolsMem}
 use Rattle.tool_chain.specs.declared.run.ToolRun.{ToolRun}
 use Rattle.tool_chain.specs.declared.turn.ToolTurn.{ToolTurn}
@@ -88,23 +88,36 @@ begun script = told_by script 0 []
 abbrev pub script_of : ToolsMem → List ToolTurn
 script_of tools = tools.script.items
 
--- A call that asks a steady folder which tells is refused for want of memory alone.
-abbrev pub Calm : {T : Type 0} → World → Result T StoreFault → Type 0
-Calm old result = IsTrue old.steady → IsTrue old.tells → IfErr result (λ fault. fault ≡ StoreMemory)
-
 -- A child ended as planned; the output of a good one stands.
 pub record EndsBy (turn : ToolTurn) (job : Job) (disk : Disk) (status : Option ℕ) : Type 0 where
   pub as_planned : status ≡ planned turn
   pub stands : turn ≡ Good → (output : Name) → job.output ≡ Some output → IsSome (disk.live output)
+
+-- the status of a child one of whose calls of the folder failed; none where it does not start
+abbrev pub failed : ToolTurn → Option ℕ
+failed Good = Some 1
+failed (Status code) = Some 1
+failed NoOutput = Some 1
+failed StartFails = None
 
 -- the answer that tells a status
 abbrev pub answer_of : Option ℕ → Result ℕ FolderFault
 answer_of None = Err Failed
 answer_of (Some status) = Ok status
 
--- The answer to a call by its turn: a start fails just where that is planned, and over a steady folder that tells a job that can be done
--- ends as planned, want of memory aside.
-pub record Answers (turn : ToolTurn) (job : Job) (old : World) (result : Result ℕ FolderFault) : Type 0 where
+-- A child that read its inputs went through its job by its turn, and no call of the folder failed.
+pub record HasEnded (turn : ToolTurn) (job : Job) (inputs : Inputs) (old new : World) (end : ChildEnd) : Type 0 where
+  pub are_read : inputs.are_read ≡ true
+  pub calm : new.faults ≡ old.faults
+  pub starts : is_none end.status ≡ fails_start turn
+  pub left : IsTrue new.tells → end.left ≡ leaves job new.story.now
+  pub made : IsTrue new.tells → end.status ≡ Some 0 → leaves job new.story.now ≡ true → OutputIs (joined (map bytes_of inputs.all.items)) job new.story.now
+  pub ends : IsTrue new.tells → leaves job old.story.now ≡ false → EndsBy turn job new.story.now end.status
+
+-- The answer to a call by its turn: a start fails just where that is planned; a child that starts ends with status 1 where a call of the
+-- folder failed; and over a steady folder that tells a job that can be done ends as planned, want of memory aside.
+pub record Answers (turn : ToolTurn) (job : Job) (old new : World) (result : Result ℕ FolderFault) : Type 0 where
   pub fails : fails_start turn ≡ true → (result ≡ Err Failed) ⊎ (result ≡ Err OutOfMemory)
   pub starts : fails_start turn ≡ false → result ≡ Err Failed → ⊥
+  pub failed_is : fails_start turn ≡ false → (new.faults ≡ old.faults) ⊎ (result ≡ Ok 1)
   pub ends : IsTrue old.steady → IsTrue old.tells → CanRun job old.story.now → (result ≡ answer_of (planned turn)) ⊎ (result ≡ Err OutOfMemory)

@@ -10,7 +10,7 @@ use Rattle.keep_store.specs.Publish.{Stays}
 use Rattle.keep_store.specs.Safe.{reads}
 use Rattle.tool_chain.specs.Jobs.{Job, leaves, OutputIs, CanRun}
 
--- One run of a child: its job, the bytes of each input as it began (none where it did not stand or could not be read), its status
+-- One run of a child: its job, the bytes of each input as it began (none where it did not stand or was not read), its status
 -- (none where it did not start), and whether its output stood as it ended.
 pub record Run : Type 0 where
   pub job : Job
@@ -55,12 +55,16 @@ pub record Spares (loose : Name → Bool) (old new : World) : Type 0 where
   pub others : IsTrue new.tells → (name : Name) → loose name ≡ false → new.story.now.live name ≡ old.story.now.live name
   pub moments : IsTrue new.tells → Through old.story new.story (Follows (May old.story.now) (Beside loose))
 
--- Each of these is what a name read as, or none.
+-- These bytes are what the name read as, or none.
+abbrev pub IsRead : Disk → Name → Option Bytes → Type 0
+IsRead disk name bytes = (bytes ≡ None) ⊎ (bytes ≡ reads disk name)
+
+-- So it is of each of these names and bytes.
 abbrev pub AreRead : List Name → Disk → List (Option Bytes) → Type 0
 AreRead [] disk [] = ⊤
 AreRead [] disk (bytes ∷ all) = ⊥
 AreRead (name ∷ names) disk [] = ⊥
-AreRead (name ∷ names) disk (bytes ∷ all) = ((bytes ≡ None) ⊎ (bytes ≡ reads disk name)) × AreRead names disk all
+AreRead (name ∷ names) disk (bytes ∷ all) = IsRead disk name bytes × AreRead names disk all
 
 -- The run is of this job. Where the folder tells it has the inputs as they stood, or none. After status 0, or where the folder is steady,
 -- it has each of them, and says whether the output stands; an output that stands after status 0 is what the child makes.
@@ -87,3 +91,7 @@ abbrev pub Works : Job → Bench → World → World → Result ℕ FolderFault 
 Works job bench old new result =
     IsTrue bench.works → IsTrue old.steady → IsTrue old.tells → CanRun job old.story.now
     → (result ≡ Err OutOfMemory) ⊎ ((result ≡ Ok 0) × ((output : Name) → job.output ≡ Some output → IsSome (new.story.now.live output)))
+
+-- Neither status 0 nor want of memory hides a call of the folder that failed.
+abbrev pub HidesNone : World → World → Result ℕ FolderFault → Type 0
+HidesNone old new result = (result ≡ Ok 0) ⊎ (result ≡ Err OutOfMemory) → new.faults ≡ old.faults

@@ -1,8 +1,8 @@
 //! Runs the steps of a job one after another.
-ghost use Rattle.std.specs.Prelude.{◌≡◌, ◌∷◌, [], IsTrue, IfErr, IfOk, OnOk, None, bytes_eq, false, map, not, ◌&&◌, is_some};
+ghost use Rattle.std.specs.Prelude.{◌≡◌, ◌∷◌, [], IsTrue, IfOk, OnOk, None, bytes_eq, false, map, not, ◌&&◌, is_some};
 ghost use Rattle.folder_base.specs.Story.{IsWhole};
-ghost use Rattle.keep_store.specs.Lane.{IsRefusal};
 ghost use Rattle.keep_store.specs.Opening.{Looked};
+ghost use Rattle.folder_steps.specs.Blames.{Blames};
 ghost use Rattle.tool_chain.specs.Jobs.{job_of, is_output, leaves, OutputsApart};
 ghost use Rattle.tool_chain.specs.Runs.{Spares};
 ghost use Rattle.tool_chain.specs.Chain.{Chains};
@@ -19,7 +19,7 @@ use text_base::FolderFault;
 fn clear_output<F: Folder>(folder: &mut F, job: &ToolJob) -> Result<(), StoreFault>
     requires whole { IsTrue (F.world folder.old).tells → IsWhole (F.world folder.old) }
     ensures spares { Spares (is_output (job_of job.now)) (F.world folder.old) (F.world folder.new) }
-    ensures refused { IfErr result (IsRefusal (F.world folder.old) (F.world folder.new)) }
+    ensures blames { Blames (F.world folder.old) (F.world folder.new) result }
     ensures free { IsTrue (F.world folder.new).tells
         → OnOk result (leaves (job_of job.now) (F.world folder.new).story.now ≡ false) }
 {
@@ -33,7 +33,7 @@ fn clear_output<F: Folder>(folder: &mut F, job: &ToolJob) -> Result<(), StoreFau
 fn clear<F: Folder>(folder: &mut F, name: &str) -> Result<(), StoreFault>
     requires whole { IsTrue (F.world folder.old).tells → IsWhole (F.world folder.old) }
     ensures spares { Spares (bytes_eq name.now) (F.world folder.old) (F.world folder.new) }
-    ensures refused { IfErr result (IsRefusal (F.world folder.old) (F.world folder.new)) }
+    ensures blames { Blames (F.world folder.old) (F.world folder.new) result }
     ensures gone { IsTrue (F.world folder.new).tells
         → OnOk result ((F.world folder.new).story.now.live name.now ≡ None) }
 {
@@ -50,7 +50,7 @@ fn clear<F: Folder>(folder: &mut F, name: &str) -> Result<(), StoreFault>
 fn lacks_output<F: Folder>(folder: &mut F, job: &ToolJob) -> Result<bool, StoreFault>
     requires whole { IsTrue (F.world folder.old).tells → IsWhole (F.world folder.old) }
     ensures looked { Looked (F.world folder.old) (F.world folder.new) }
-    ensures refused { IfErr result (IsRefusal (F.world folder.old) (F.world folder.new)) }
+    ensures blames { Blames (F.world folder.old) (F.world folder.new) result }
     ensures told { IsTrue (F.world folder.new).tells
         → IfOk result
         (λ lacks. lacks ≡ (is_some (job_of job.now).output

@@ -1,10 +1,11 @@
 //! What a child in memory does, by the calls of the folder.
-ghost use Rattle.std.specs.Prelude.{◌≡◌, true, IsTrue, IfOk, IfErr, Some, None, map, bytes_eq};
+ghost use Rattle.std.specs.Prelude.{◌≡◌, true, IsTrue, IfOk, OnErr, Some, None, map, bytes_eq};
 ghost use Rattle.folder_base.specs.Story.{IsWhole};
 ghost use Rattle.keep_store.specs.Opening.{Looked};
 ghost use Rattle.keep_store.specs.Safe.{reads};
-ghost use Rattle.tool_chain.specs.Memory.{bytes_of, joined, Calm};
-ghost use Rattle.tool_chain.specs.Runs.{AreRead, Spares};
+ghost use Rattle.folder_steps.specs.Blames.{BlamesMemory};
+ghost use Rattle.tool_chain.specs.Memory.{bytes_of, joined};
+ghost use Rattle.tool_chain.specs.Runs.{IsRead, AreRead, Spares};
 
 use folder_base::{Folder, FolderCall, StoreFault};
 use folder_steps::{is_there, put_behind, read_all, store_fault};
@@ -21,12 +22,46 @@ fn read_file<F: Folder>(
     ensures looked { Looked (F.world folder.old) (F.world folder.new) }
     ensures told { IsTrue (F.world folder.new).tells
         → IfOk result (λ kept. bytes_of kept ≡ reads (F.world folder.old).story.now name.now) }
-    ensures calm { Calm (F.world folder.old) result }
+    ensures blames { BlamesMemory (F.world folder.old) (F.world folder.new) result }
 {
     if !is_there(folder, name)? {
         return Ok(None);
     }
     Ok(Some(read_all(alloc, folder, name)?))
+}
+
+/// Reads an input of a child, where each of those before it was read. One that is not read has no bytes.
+fn read_next<F: Folder>(
+    alloc: Global,
+    folder: &mut F,
+    name: &str,
+    are_read: &mut bool,
+) -> Result<Option<Vec<u8>>, OutOfMemory>
+    requires whole { IsTrue (F.world folder.old).tells → IsWhole (F.world folder.old) }
+    ensures looked { Looked (F.world folder.old) (F.world folder.new) }
+    ensures told { IsTrue (F.world folder.new).tells
+        → IfOk result
+        (λ kept. IsRead (F.world folder.old).story.now name.now (bytes_of kept)) }
+    ensures exact { IsTrue (F.world folder.new).tells
+        → are_read.new ≡ true
+        → IfOk result (λ kept. bytes_of kept ≡ reads (F.world folder.old).story.now name.now) }
+    ensures still { are_read.new ≡ true
+        → (are_read.old ≡ true) × ((F.world folder.new).faults ≡ (F.world folder.old).faults) }
+    ensures fed { OnErr result (are_read.new ≡ true) }
+    ensures steady { IsTrue (F.world folder.old).steady → IsTrue (F.world folder.old).tells
+        → are_read.old ≡ true → are_read.new ≡ true }
+{
+    if !*are_read {
+        return Ok(None);
+    }
+    match read_file(alloc, folder, name) {
+        Ok(bytes) => Ok(bytes),
+        Err(StoreFault::Folder { .. }) => {
+            *are_read = false;
+            Ok(None)
+        }
+        Err(StoreFault::OutOfMemory) => Err(OutOfMemory),
+    }
 }
 
 /// The inputs of a child, and whether each was read.
@@ -36,7 +71,8 @@ pub(crate) struct Inputs {
     pub are_read: bool,
 }
 
-/// Reads the inputs of a child. One that cannot be read has no bytes.
+/// Reads the inputs of a child, up to the first that cannot be read. It has no bytes, nor have those
+/// behind it.
 pub(crate) fn read_inputs<F: Folder>(
     alloc: Global,
     folder: &mut F,
@@ -51,20 +87,17 @@ pub(crate) fn read_inputs<F: Folder>(
         → IfOk result
         (λ inputs. inputs.are_read ≡ true
         → map bytes_of inputs.all.items ≡ map (reads (F.world folder.old).story.now) names.now.items) }
-    ensures calm { IsTrue (F.world folder.old).steady → IsTrue (F.world folder.old).tells
+    ensures still { IfOk result
+        (λ inputs. inputs.are_read ≡ true → (F.world folder.new).faults ≡ (F.world folder.old).faults) }
+    ensures fed { OnErr result ((F.world folder.new).faults ≡ (F.world folder.old).faults) }
+    ensures steady { IsTrue (F.world folder.old).steady → IsTrue (F.world folder.old).tells
         → IfOk result (λ inputs. inputs.are_read ≡ true) }
 {
     let mut all = Vec::with_capacity(alloc, names.len())?;
     let mut are_read = true;
     for name in names {
-        match read_file(alloc, folder, name.as_str()) {
-            Ok(bytes) => all.push(bytes)?,
-            Err(StoreFault::Folder { .. }) => {
-                are_read = false;
-                all.push(None)?;
-            }
-            Err(StoreFault::OutOfMemory) => return Err(OutOfMemory),
-        }
+        let bytes = read_next(alloc, folder, name.as_str(), &mut are_read)?;
+        all.push_reserved(bytes);
     }
     Ok(Inputs { all, are_read })
 }
@@ -97,7 +130,7 @@ pub(crate) fn make_output<F: Folder>(
         → reads (F.world folder.new).story.now name.now ≡ Some (joined (map bytes_of inputs.now.items))) }
     ensures free { IsTrue (F.world folder.new).tells
         → IfOk result (λ made. (F.world folder.old).story.now.live name.now ≡ None → made ≡ true) }
-    ensures calm { Calm (F.world folder.old) result }
+    ensures blames { BlamesMemory (F.world folder.old) (F.world folder.new) result }
 {
     if is_there(folder, name)? {
         return Ok(false);

@@ -2,7 +2,7 @@ ghost use Rattle.std.specs.Prelude.{◌≡◌, IsTrue, IfOk, IsErrOf, length, ma
 ghost use Rattle.folder_base.specs.Story.{World, IsWhole};
 ghost use Rattle.tool_chain.specs.Jobs.{job_of, is_output};
 ghost use Rattle.tool_chain.specs.Memory.{bench_of, script_of, begun, run_of, turn_at, Answers};
-ghost use Rattle.tool_chain.specs.Runs.{Bench, Starts, Spares, IsRunOf, Adds, status_of, Works};
+ghost use Rattle.tool_chain.specs.Runs.{Bench, Starts, Spares, HidesNone, IsRunOf, Adds, status_of, Works};
 
 use crate::act::run_child;
 use crate::job::ToolJob;
@@ -61,6 +61,7 @@ impl<F: Folder> Tools<F> for ToolsMem {
         requires whole { IsTrue (F.world folder.old).tells → IsWhole (F.world folder.old) }
         ensures starts { Starts (IsErrOf result FolderFault.Failed) (bench_of self.old) (bench_of self.new) }
         ensures spares { Spares (is_output (job_of job.now)) (F.world folder.old) (F.world folder.new) }
+        ensures hides { HidesNone (F.world folder.old) (F.world folder.new) result }
         ensures told { IsTrue (bench_of self.new).tells
             → Adds (IsRunOf (bench_of self.old).make (job_of job.now)
             (F.world folder.old) (F.world folder.new))
@@ -70,16 +71,17 @@ impl<F: Folder> Tools<F> for ToolsMem {
         ensures script { script_of self.new ≡ script_of self.old }
         ensures answers { Answers
             (turn_at (script_of self.old) (length (bench_of self.old).runs)) (job_of job.now)
-            (F.world folder.old) result }
+            (F.world folder.old) (F.world folder.new) result }
     {
         let turn = self.turn();
+        if self.runs.reserve(1).is_err() {
+            return Err(FolderFault::OutOfMemory);
+        }
         let Ok(run) = run_child(alloc, folder, job, turn) else {
             return Err(FolderFault::OutOfMemory);
         };
         let status = run.status;
-        if self.runs.push(run).is_err() {
-            return Err(FolderFault::OutOfMemory);
-        }
+        self.runs.push_reserved(run);
         match status {
             Some(status) => Ok(status),
             None => {

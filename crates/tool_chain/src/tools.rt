@@ -1,7 +1,7 @@
 ghost use Rattle.std.specs.Prelude.{IsTrue, IsErrOf};
 ghost use Rattle.folder_base.specs.Story.{World, IsWhole};
 ghost use Rattle.tool_chain.specs.Jobs.{job_of, is_output};
-ghost use Rattle.tool_chain.specs.Runs.{Bench, Starts, Spares, IsRunOf, Adds, status_of, Works};
+ghost use Rattle.tool_chain.specs.Runs.{Bench, Starts, Spares, HidesNone, IsRunOf, Adds, status_of, Works};
 
 use crate::job::ToolJob;
 use folder_base::Folder;
@@ -20,6 +20,7 @@ pub trait Tools<F: Folder> {
         requires whole { IsTrue (F.world folder.old).tells → IsWhole (F.world folder.old) }
         ensures starts { Starts (IsErrOf result FolderFault.Failed) (bench self.old) (bench self.new) }
         ensures spares { Spares (is_output (job_of job.now)) (F.world folder.old) (F.world folder.new) }
+        ensures hides { HidesNone (F.world folder.old) (F.world folder.new) result }
         ensures told { IsTrue (bench self.new).tells
             → Adds (IsRunOf (bench self.old).make (job_of job.now)
             (F.world folder.old) (F.world folder.new))

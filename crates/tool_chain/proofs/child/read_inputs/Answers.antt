@@ -1,41 +1,42 @@
-use Rattle.std.proofs.Common.{◌≡◌, ◌++◌, ◌∷◌, [], IsTrue, inl, inr, sym, ◌∙◌, ap, rules, arith, refl}
-use Rattle.std.specs.Prelude.{None}
-use Rattle.std.proofs.lemmas.Grind.{common_steps}
+use Rattle.std.proofs.Common.{◌∙◌, ap, arith, subst}
+use Rattle.std.proofs.lemmas.Result.{err_from_is_err_and}
 use Rattle.folder_base.specs.Disk.{Name}
 use Rattle.folder_base.specs.Story.{Story}
 use Rattle.keep_store.specs.Safe.{reads}
 use Rattle.tool_chain.specs.Memory.{bytes_of}
+use Rattle.tool_chain.specs.Runs.{IsRead}
 use Rattle.tool_chain.proofs.MemoryLemmas.{looked_both, told_more, exact_more}
 use Rattle.tool_chain.proofs.child.read_inputs.Goals as goal
-use Rattle.tool_chain.proofs.child.read_inputs.Goals.{in-Ok+in_ok-push-in-Ok, in-Err-Folder+in_ok-push-in-Err-Folder}
+
+pub push_reserved-requires : goal.push_reserved-requires
+push_reserved-requires g c = omega (arith, c.loop-name.invariant.room, c.loop-name.invariant.count)
 
 pub loop-name-preserved : goal.loop-name-preserved
 loop-name-preserved g c =
     let names = c.deref-name-items.result.now in
     let name = c.name-item.result in
     let old = c.loop-name.all.items in
-    let new = c.match-read_file.all.items in
+    let new = c.push_reserved.new.self.items in
+    let kept = c.in_ok-bytes.bytes in
     let disk = (g.F.Folder.world c.args.folder.now).story.now in
-    elim c.match-read_file.branch [
-      | in-Ok+in_ok-push-in-Ok w ↦
-          let pushed : new ≡ old ++ w.in-Ok.bytes ∷ [] = first_of (search rules, grind (arith, common_steps)) in
-          let flag : c.match-read_file.are_read ≡ c.loop-name.are_read = first_of (search rules, grind (arith, common_steps)) in
-          let read : IsTrue (g.F.Folder.world c.read_file.new.folder).tells → bytes_of w.in-Ok.bytes ≡ reads disk name = λ t. w.in-Ok.ensures.told t ∙ ap (λ (s : Story). reads s.now c.as_str.result.now) (c.loop-name.invariant.looked.same (c.read_file.ensures.looked.stays.tells t)) ∙ ap (λ (n : Name). reads disk n) c.as_str.ensures in
-          record {
-            looked = looked_both c.loop-name.invariant.looked c.read_file.ensures.looked;
-            told = λ t. told_more names c.loop-name.name-index name (omega arith) c.name-item.is old new w.in-Ok.bytes pushed disk
-                (c.loop-name.invariant.told (c.read_file.ensures.looked.stays.tells t)) (inr (read t));
-            exact = λ t is. exact_more names c.loop-name.name-index name (omega arith) c.name-item.is old new w.in-Ok.bytes pushed disk
-                (c.loop-name.invariant.exact (c.read_file.ensures.looked.stays.tells t) (sym flag ∙ is)) (read t);
-            calm = λ s t. flag ∙ c.loop-name.invariant.calm s t;
-          }
-      | in-Err-Folder+in_ok-push-in-Err-Folder w ↦
-          let pushed : new ≡ old ++ None ∷ [] = first_of (search rules, grind (arith, common_steps)) in
-          record {
-            looked = looked_both c.loop-name.invariant.looked c.read_file.ensures.looked;
-            told = λ t. told_more names c.loop-name.name-index name (omega arith) c.name-item.is old new None pushed disk
-                (c.loop-name.invariant.told (c.read_file.ensures.looked.stays.tells t)) (inl refl);
-            exact = λ t is. first_of (search rules, grind (arith, common_steps));
-            calm = λ s t. first_of (search rules, grind (arith, common_steps));
-          }
-    ]
+    let had = c.loop-name.invariant in
+    record {
+      looked = looked_both had.looked c.read_next.ensures.looked;
+      told = λ t. let t0 = c.read_next.ensures.looked.stays.tells t in
+          told_more names c.loop-name.name-index name (omega arith) c.name-item.is old new kept c.push_reserved.ensures.items disk (had.told t0)
+          (subst (λ (n : Name). IsRead disk n (bytes_of kept)) c.as_str.ensures
+          (subst (λ (s : Story). IsRead s.now c.as_str.result.now (bytes_of kept)) (had.looked.same t0) (c.in_ok-bytes.ensures.told t)));
+      exact = λ t is. let t0 = c.read_next.ensures.looked.stays.tells t in
+          exact_more names c.loop-name.name-index name (omega arith) c.name-item.is old new kept c.push_reserved.ensures.items disk (had.exact t0 (c.read_next.ensures.still is).0)
+          (c.in_ok-bytes.ensures.exact t is ∙ ap (λ (s : Story). reads s.now c.as_str.result.now) (had.looked.same t0) ∙ ap (λ (n : Name). reads disk n) c.as_str.ensures);
+      still = λ is. let before = c.read_next.ensures.still is in before.1 ∙ had.still before.0;
+      room = omega (arith, had.room, c.push_reserved.ensures.capacity);
+      count = omega (arith, had.count, c.push_reserved.ensures.len);
+      steady = λ s t. c.read_next.ensures.steady (had.looked.stays.steady s) (had.looked.stays.still_tells t) (had.steady s t);
+    }
+
+pub returns-in_err-bytes-clause-fed : goal.returns-in_err-bytes-clause-fed
+returns-in_err-bytes-clause-fed g c =
+    let before = c.read_next.ensures.still c.in_err-bytes.ensures.fed in
+    let p = err_from_is_err_and c.from_residual-in_err-bytes.result c.from_residual-in_err-bytes.ensures.1 in
+    rw p.1 (before.1 ∙ c.loop-name.invariant.still before.0)
