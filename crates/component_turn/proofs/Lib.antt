@@ -8,6 +8,7 @@ pub mod TurnLemmas
 pub mod MakeLemmas
 pub mod FoldLemmas
 pub mod FetchLemmas
+pub mod OwnLemmas
 pub mod UnderwayLemmas
 pub mod EnterLemmas
 pub mod HeldLemmas

@@ -19,11 +19,12 @@ use Rattle.component_turn.specs.Plan.{lines_of, stems_from}
 use Rattle.component_turn.specs.Crew.{CrewKeeps, CrewSound}
 use Rattle.component_turn.specs.Lanes.{EachSettled, EachNoLess}
 use Rattle.component_turn.specs.Turned.{goes, IsAsRead, Underway}
+use Rattle.component_turn.proofs.OwnLemmas.{own_none, beginning_none, crew_own, assembling_own}
 use Rattle.component_turn.proofs.TurnLemmas.{at_end, beginning_beside, assembling_beside, pieces_beside, beside_on, beginning_kept, assembling_kept, no_less_at, no_less_first}
 
 -- What is so whatever was replied is so of truthful replies.
 pub underway_of : {component : Component} {settings : Settings} {old new : World} → Underway component settings (λ web. Unit {0}) old new → (truth : Web → Type 0) → Underway component settings truth old new
-underway_of was truth = record { apart = was.apart; kept = was.kept; sound = λ web told. was.sound web tt }
+underway_of was truth = record { apart = was.apart; kept = was.kept; own = was.own; sound = λ web told. was.sound web tt }
 
 module _ (component : Component) (settings : Settings) (truth : Web → Type 0) (old : World) where
   abbrev C : Name
@@ -40,6 +41,7 @@ module _ (component : Component) (settings : Settings) (truth : Web → Type 0) 
     apart = weaker moments (beginning_beside C component.target.is_final text old.story.now (goes component settings old));
     kept = λ goes_on as_read k lt. weaker moments (λ image is. inl (beginning_kept C text k component.target.is_final old.story.now as_read image
         (subst (λ (b : Bool). IsBeginning C component.target.is_final text b old.story.now image) goes_on is)));
+    own = λ as_read none. weaker moments (λ image is. own_none C text image (beginning_none C text old.story.now component.target.is_final (goes component settings old) none image is));
     sound = λ web told as_read final always. sound web final always;
   }
 
@@ -48,6 +50,7 @@ module _ (component : Component) (settings : Settings) (truth : Web → Type 0) 
   settle_underway mid new settling was = record {
     apart = joined was.apart (weaker settling (at_end was.apart));
     kept = λ goes_on as_read k lt. let run = was.kept goes_on as_read k lt in joined run (weaker settling (at_end run));
+    own = λ as_read none. let run = was.own as_read none in joined run (weaker settling (at_end run));
     sound = λ web told as_read final always. let run = was.sound web told as_read final always in joined run (weaker settling (at_end run));
   }
 
@@ -63,6 +66,7 @@ module _ (component : Component) (settings : Settings) (truth : Web → Type 0) 
     kept = λ goes_on as_read k lt. joined (was.kept goes_on as_read k lt)
         (weaker (keeps.kept (calm (λ g. as_read)) (as_much (λ g. as_read)))
         (λ image each. inl (no_less_at (stem_of C k) (reads old.story.now) (reads mid.story.now) image (λ name mine. same goes_on k name mine) (no_less_first (reads mid.story.now) image C (count_of component) k lt each))));
+    own = λ as_read none. let run = was.own as_read none in joined run (weaker keeps.apart (crew_own C text mid.story.now (at_end run)));
     sound = λ web told as_read final always.
         let run = was.sound web told as_read final always in
         joined run (weaker (crew_sound web told (calm as_read) (λ image may. (recorded as_read image may, at_end run image may))) (λ image planned. planned.1));
@@ -79,6 +83,7 @@ module _ (component : Component) (settings : Settings) (truth : Web → Type 0) 
     apart = beside_on was.apart (weaker moments (assembling_beside C (count_of component) mid.story.now));
     kept = λ goes_on as_read k lt. joined (was.kept goes_on as_read k lt)
         (weaker moments (assembling_kept C text k (count_of component) (reads old.story.now) mid.story.now (no_less goes_on as_read k lt) (recorded (λ g. as_read))));
+    own = λ as_read none. let run = was.own as_read none in joined run (weaker moments (assembling_own C text mid.story.now (count_of component) (at_end run) (recorded as_read)));
     sound = λ web told as_read final always.
         let run = was.sound web told as_read final always in
         joined run (sound web (λ image may. pieces image (recorded as_read image may)) (at_end run));

@@ -6,6 +6,7 @@ use Rattle.folder_base.specs.Story.{World, Through}
 use Rattle.folder_base.specs.declared.store_fault.StoreFault.{StoreFault}
 use Rattle.folder_base.specs.declared.store_fault.StoreFault.TheVariants.{OutOfMemory}
 use Rattle.folder_steps.specs.Follow.{Always, AsRead, Follows, Beside}
+use Rattle.keep_store.specs.Promise.{IfStands}
 use Rattle.keep_store.specs.Safe.{reads}
 use Rattle.link_http.specs.Wire.{Wire}
 use Rattle.link_http.specs.declared.piece.Piece.{Piece}
@@ -55,6 +56,10 @@ IsAsRead component disk = Always (AsRead (is_of (name_of component)) disk) disk
 abbrev pub IsKept : Component → Disk → ℕ → Image → Type 0
 IsKept component disk k image = NoLess (reads disk) (stem_of (name_of component) k) image ⊎ (IsSome (image (name_of component)) × (image (record_of (name_of component)) ≡ Some (text_of component)))
 
+-- The component stands only beside its plan's record.
+abbrev pub IsOwn : Component → Image → Type 0
+IsOwn component image = IfStands (image (name_of component)) (λ bytes. image (record_of (name_of component)) ≡ Some (text_of component))
+
 -- The answer is by how the pieces ended. Of a component that was complete none was begun, and of another that got an end each is told; a piece that failed by the
 -- folder, or for want of memory, decides the answer, whatever failed later.
 pub record EndIs (complete : Bool) (count : ℕ) (ends : List PieceEnd) (result : Result ComponentEnd StoreFault) : Type 0 where
@@ -63,11 +68,13 @@ pub record EndIs (complete : Bool) (count : ℕ) (ends : List PieceEnd) (result 
   pub end : IfOk result (λ end. judged ends ≡ Ok end)
   pub first : (fault : StoreFault) → judged ends ≡ Err fault → result ≡ Err fault
 
--- At each moment of the turn: no name beside the family is touched; what is promised of the pieces of a component that goes on is kept; and where the replies were
--- truthful, whatever stood was sound. A final name is one that does not stand as the turn begins.
+-- At each moment of the turn: no name beside the family is touched; what is promised of the pieces of a component that goes on is kept; a component that did not
+-- stand as the turn began stands only beside its plan's record; and where the replies were truthful, whatever stood was sound. A final name is one that does not
+-- stand as the turn begins.
 pub record Underway (component : Component) (settings : Settings) (truth : Web → Type 0) (old new : World) : Type 0 where
   pub apart : Through old.story new.story (Follows (May old.story.now) (Beside (is_of (name_of component))))
   pub kept : goes component settings old ≡ true → IsAsRead component old.story.now → (k : ℕ) → k < count_of component → Through old.story new.story (IsKept component old.story.now k)
+  pub own : (goes component settings old ≡ true → IsAsRead component old.story.now) → Always (λ image. image (name_of component) ≡ None) old.story.now → Through old.story new.story (IsOwn component)
   pub sound : (web : Web) → truth web → (goes component settings old ≡ true → IsAsRead component old.story.now) → (component.target.is_final ≡ true → Always (λ image. image (name_of component) ≡ None) old.story.now)
       → Always (ComponentSound web (name_of component)) old.story.now → Through old.story new.story (ComponentSound web (name_of component))
 
