@@ -1,0 +1,5 @@
+pub mod Component
+pub mod Pieces
+pub mod Kept
+pub mod Record
+pub mod Views
