@@ -1,0 +1,10 @@
+pub mod ApartLemmas
+pub mod ChoiceLemmas
+pub mod ClashLemmas
+pub mod DraftLemmas
+pub mod EntryLemmas
+pub mod FetchableLemmas
+pub mod FewLemmas
+pub mod FinishLemmas
+pub mod StepLemmas
+pub mod WholeLemmas
