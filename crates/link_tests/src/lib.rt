@@ -1,6 +1,8 @@
-//! Tests of workers, of tries over HTTP, of a piece's tries, of lanes that are fetched at once, and of what the server of files answers.
+//! Tests of workers, of tries over HTTP, of a piece's tries, of lanes that are fetched at once, of a component's turn, and of what the server of files answers.
 #![tactic(auto)]
 
+#[cfg(test)]
+mod components;
 #[cfg(test)]
 mod crews;
 #[cfg(test)]
