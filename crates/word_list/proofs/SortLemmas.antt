@@ -23,15 +23,15 @@ use Rattle.word_list.specs.Values.{selector_of}
 use Rattle.word_list.specs.Words.{HaveAnOrder, IsOrder, sort_words}
 
 -- what a value makes is there only where the value is
-mapped : {T U E : Type 0} (f : T → U) (r : Result T E) (u : U) → result_map f r ≡ Ok u → (x : T) × (r ≡ Ok x) × (u ≡ f x)
+pub mapped : {T U E : Type 0} (f : T → U) (r : Result T E) (u : U) → result_map f r ≡ Ok u → (x : T) × (r ≡ Ok x) × (u ≡ f x)
 mapped f (Ok x) u is = (x, refl, cc is)
 mapped f (Err e) u is = cc is
 
-unplaced : {T E F : Type 0} (g : E → F) (r : Result T E) (x : T) → result_map_err g r ≡ Ok x → r ≡ Ok x
+pub unplaced : {T E F : Type 0} (g : E → F) (r : Result T E) (x : T) → result_map_err g r ≡ Ok x → r ≡ Ok x
 unplaced g (Ok y) x is = cc is
 unplaced g (Err e) x is = cc is
 
-goes_on : {T U E : Type 0} (r : Result T E) (f : T → Result U E) (u : U) → result_and_then r f ≡ Ok u → (x : T) × (r ≡ Ok x) × (f x ≡ Ok u)
+pub goes_on : {T U E : Type 0} (r : Result T E) (f : T → Result U E) (u : U) → result_and_then r f ≡ Ok u → (x : T) × (r ≡ Ok x) × (f x ≡ Ok u)
 goes_on (Ok x) f u is = (x, refl, is)
 goes_on (Err e) f u is = cc is
 

@@ -4,7 +4,7 @@ use Rattle.std.specs.List.{list_any, slice_split, before_first, after_first, pos
 use Rattle.std.specs.Str.{bytes_eq}
 use Rattle.word_list.specs.declared.fault.OptionFault.{OptionFault}
 use Rattle.word_list.specs.declared.fault.OptionFault.TheVariants.{BadValue}
-use Rattle.word_list.specs.declared.plan_options.ExtRule.{ExtRule}
+use Rattle.job_steps.specs.declared.rule.ExtRule.{ExtRule}
 use Rattle.word_list.specs.Faults.{result_map, result_and_then}
 
 -- what parts are merged into

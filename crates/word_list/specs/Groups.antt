@@ -21,7 +21,7 @@ use Rattle.word_list.specs.declared.naming.NamingFlag.{NamingFlag}
 use Rattle.word_list.specs.declared.naming.NamingFlag.TheVariants.{Restricted}
 use Rattle.word_list.specs.declared.naming.NamingValue.{NamingValue}
 use Rattle.word_list.specs.declared.naming.NamingValue.TheVariants.{Output, Placeholder, FirstNumber, Trim}
-use Rattle.word_list.specs.declared.plan_options.ExtRule.{ExtRule}
+use Rattle.job_steps.specs.declared.rule.ExtRule.{ExtRule}
 use Rattle.word_list.specs.declared.showing.ShowingFlag.{ShowingFlag}
 use Rattle.word_list.specs.declared.showing.ShowingFlag.TheVariants.{Simulate, Quiet}
 use Rattle.word_list.specs.declared.showing.ShowingValue.{ShowingValue}

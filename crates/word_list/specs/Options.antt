@@ -8,7 +8,7 @@ use Rattle.word_list.specs.declared.fault.OptionFault.TheVariants.{NoInfo}
 use Rattle.word_list.specs.declared.fault.WordsFault.{WordsFault}
 use Rattle.word_list.specs.declared.fault.WordsFault.TheVariants.{Bad}
 use Rattle.word_list.specs.declared.naming.Naming.{Naming}
-use Rattle.word_list.specs.declared.plan_options.ExtRule.{ExtRule}
+use Rattle.job_steps.specs.declared.rule.ExtRule.{ExtRule}
 use Rattle.word_list.specs.Defaults.{default_sel, default_template}
 use Rattle.word_list.specs.Groups.{Choosing, Tools, simulates, is_quiet}
 use Rattle.word_list.specs.Settings.{Settings, no_settings}

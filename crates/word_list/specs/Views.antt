@@ -5,8 +5,8 @@ use Rattle.fmt_sort.specs.Spec.{wish_of}
 use Rattle.sel_lang.specs.View.{plain}
 use Rattle.word_list.specs.declared.choosing.Choosing.{Choosing as HeldChoosing}
 use Rattle.word_list.specs.declared.options.Options.{Options as HeldOptions}
-use Rattle.word_list.specs.declared.plan_options.PlanOptions.{PlanOptions as HeldPlan}
-use Rattle.word_list.specs.declared.plan_options.Streams.{Streams as HeldStreams}
+use Rattle.job_plan.specs.declared.options.PlanOptions.{PlanOptions as HeldPlan}
+use Rattle.sel_eval.specs.declared.streams.Streams.{Streams as HeldStreams}
 use Rattle.word_list.specs.declared.settings.Settings.{Settings as HeldSettings}
 use Rattle.word_list.specs.declared.showing.Showing.{Showing as HeldShowing}
 use Rattle.word_list.specs.declared.tools.Tools.{Tools as HeldTools}

@@ -5,9 +5,9 @@ ghost use Rattle.word_list.specs.Groups as spec;
 
 use crate::entries::containers;
 use crate::fault::{OptionFault, ValueFault};
-use crate::plan_options::Streams;
 use crate::values::selector;
 use fmt_sort::SortWords;
+use sel_eval::Streams;
 use sel_lang::Sel;
 use std::alloc::Global;
 

@@ -9,7 +9,7 @@ ghost use Rattle.word_list.specs.Faults.{Gives};
 ghost use Rattle.word_list.specs.OptionRows.{texts_in};
 
 use crate::fault::{OptionFault, ValueFault};
-use crate::plan_options::ExtRule;
+use job_plan::ExtRule;
 use std::alloc::Global;
 use text_base::Text;
 

@@ -12,7 +12,6 @@ mod naming;
 mod numbers;
 mod option_table;
 mod options;
-mod plan_options;
 mod settings;
 mod showing;
 mod source;
@@ -22,5 +21,4 @@ mod words;
 
 pub use fault::{OptionFault, WordsFault};
 pub use options::Options;
-pub use plan_options::{ExtRule, PlanOptions, Streams};
 pub use words::read_words;

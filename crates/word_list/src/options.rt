@@ -9,10 +9,10 @@ ghost use Rattle.word_list.specs.Views.{plain_choosing, plain_options, plain_pla
 use crate::choosing::Choosing;
 use crate::defaults::{default_sel, default_template};
 use crate::naming::Naming;
-use crate::plan_options::PlanOptions;
 use crate::settings::Settings;
 use crate::showing::Showing;
 use crate::tools::Tools;
+use job_plan::PlanOptions;
 use sel_lang::Sel;
 use std::alloc::Global;
 use text_base::{OutOfMemory, Text};

@@ -2,8 +2,8 @@
 
 use crate::entries::{audio_rules, remux_rules};
 use crate::fault::ValueFault;
-use crate::plan_options::ExtRule;
 use crate::values::{command, some_text};
+use job_plan::ExtRule;
 use std::alloc::Global;
 use text_base::{OutOfMemory, Text};
 use tpl_lang::Template;

@@ -1,8 +1,6 @@
 -- An information file has one reading: its items, or its fault.
 use Rattle.std.proofs.Common.{◌≡◌, ◌≢◌, ◌⊎◌, ℕ, List, ap, inl, inr}
 use Rattle.std.specs.Prelude.{Result, Ok, Err, IfOk, IfErr}
-use Rattle.ytdl_core.specs.Selection.{Selection}
-use Rattle.ytdl_core.specs.declared.entry.Entry.{Entry}
 use Rattle.info_tree.specs.Tree.{Tree as Plain}
 use Rattle.info_tree.specs.Reading.{IsTextOf, Has}
 use Rattle.info_tree.specs.declared.tree_fault.TreeFault.{TreeFault}
@@ -17,7 +15,11 @@ use Rattle.ytdl_core.specs.declared.run_fault.InfoFault.TheVariants.{Tree, Item}
 use Rattle.ytdl_core.specs.declared.run_fault.RunFault.{RunFault}
 use Rattle.ytdl_core.specs.declared.run_fault.RunFault.TheVariants.{Options, Info, InfoRead, Write, OutOfMemory}
 use Rattle.ytdl_core.specs.Faults.{of_tree, of_items}
-use Rattle.ytdl_core.specs.Run.{HasEntries, HaveEntries, HaveItems, HaveFault, IsFaultOfTree, IsOfFault, IsOfItems, IsExactOf, IsFaultOfBytes}
+use Rattle.job_plan.specs.Plan.{Job, Entry}
+use Rattle.word_list.specs.Options.{PlanOptions}
+use Rattle.ytdl_core.specs.Information.{HaveEntries, HaveItems, HaveFault}
+use Rattle.ytdl_core.specs.Run.{IsOfFault, IsOfItems}
+use Rattle.ytdl_core.specs.Steps.{HasEntries, IsFaultOfTree, IsExactOf, IsFaultOfBytes}
 
 tree_told : (bytes : List ℕ) (e : TreeFault) → Has bytes e → IsFaultOfBytes bytes (of_tree e)
 tree_told bytes (tree.Syntax at) has = (has, λ e. cc e)
@@ -29,22 +31,22 @@ tree_told bytes tree.OutOfMemory has = tt
 
 same_tree : (T : Type 0) (e f : TreeFault) → (e ≡ f) ⊎ (e ≡ tree.OutOfMemory) ⊎ (f ≡ tree.OutOfMemory) → f ≢ tree.OutOfMemory →
     IsOfFault {T = T} (Tree f) (Err (of_tree e))
-same_tree T (tree.Syntax at) f (inl is) not_memory = ap (λ t. Tree t) is
+same_tree T (tree.Syntax at) f (inl is) not_memory = inl (ap (λ t. Info (Tree t)) is)
 same_tree T (tree.Syntax at) f (inr (inl is)) not_memory = cc is
 same_tree T (tree.Syntax at) f (inr (inr is)) not_memory = absurd (not_memory is)
-same_tree T (tree.Depth at) f (inl is) not_memory = ap (λ t. Tree t) is
+same_tree T (tree.Depth at) f (inl is) not_memory = inl (ap (λ t. Info (Tree t)) is)
 same_tree T (tree.Depth at) f (inr (inl is)) not_memory = cc is
 same_tree T (tree.Depth at) f (inr (inr is)) not_memory = absurd (not_memory is)
-same_tree T (tree.Number at fault) f (inl is) not_memory = ap (λ t. Tree t) is
+same_tree T (tree.Number at fault) f (inl is) not_memory = inl (ap (λ t. Info (Tree t)) is)
 same_tree T (tree.Number at fault) f (inr (inl is)) not_memory = cc is
 same_tree T (tree.Number at fault) f (inr (inr is)) not_memory = absurd (not_memory is)
-same_tree T (tree.NotUtf8 at) f (inl is) not_memory = ap (λ t. Tree t) is
+same_tree T (tree.NotUtf8 at) f (inl is) not_memory = inl (ap (λ t. Info (Tree t)) is)
 same_tree T (tree.NotUtf8 at) f (inr (inl is)) not_memory = cc is
 same_tree T (tree.NotUtf8 at) f (inr (inr is)) not_memory = absurd (not_memory is)
-same_tree T tree.TooLong f (inl is) not_memory = ap (λ t. Tree t) is
+same_tree T tree.TooLong f (inl is) not_memory = inl (ap (λ t. Info (Tree t)) is)
 same_tree T tree.TooLong f (inr (inl is)) not_memory = cc is
 same_tree T tree.TooLong f (inr (inr is)) not_memory = absurd (not_memory is)
-same_tree T tree.OutOfMemory f same not_memory = tt
+same_tree T tree.OutOfMemory f same not_memory = inr tt
 
 -- the bytes have no tree but by their fault
 pub exact_tree : {T : Type 0} (bytes : List ℕ) (e : TreeFault) → Has bytes e →
@@ -57,7 +59,7 @@ exact_tree {T} bytes e has only exact = record {
 } where
   faults : (fault : InfoFault) → HaveFault bytes fault → IsOfFault {T = T} fault (Err (of_tree e))
   faults (Tree f) have = same_tree T e f (exact f have.0) have.1
-  faults (Item f) have = rw (only have.tree have.is_text) tt
+  faults (Item f) have = rw (only have.tree have.is_text) (inr tt)
 
 items_told : (t : Plain) (e : ItemFault) → IsFaultOf (items_of t) e → IsFaultOfTree t (of_items e)
 items_told t (item.NotItem k) has = has
@@ -82,15 +84,15 @@ module _ (T : Type 0) (bytes : List ℕ) (t : Plain) (text : IsTextOf bytes t) (
   told OutOfMemory has = tt
 
   its_fault : (e : RunFault) → IsFaultOfTree t e → (fault : InfoFault) → HaveFault bytes fault → IsOfFault {T = T} fault (Err e)
-  its_fault (Options word option) has fault have = has
+  its_fault (Options word option) has fault have = absurd has
   its_fault (Info (Tree f)) has fault have = absurd has
   its_fault (Info (Item f)) has (Tree g) have = absurd (have.1 (exact g have.0))
   its_fault (Info (Item f)) has (Item g) have =
       let other : items_of t ≡ Err g = rw (← only have.tree have.is_text) at have.has_fault in
-      ap (λ i. Item i) (cc (has, other))
+      inl (ap (λ i. Info (Item i)) (cc (has, other)))
   its_fault InfoRead has fault have = absurd has
   its_fault (Write which) has fault have = absurd has
-  its_fault OutOfMemory has fault have = tt
+  its_fault OutOfMemory has fault have = inr tt
 
   its_items : (e : RunFault) → IsFaultOfTree t e → (items : List PlainItem) → HaveItems bytes items → IsOfItems {T = T} (Err e)
   its_items (Options word option) has items have = has
@@ -114,16 +116,16 @@ module _ (T : Type 0) (bytes : List ℕ) (t : Plain) (text : IsTextOf bytes t) (
   exact_by_tree (Err e) ok err = record { info = told e err; faults = its_fault e err; items = its_items e err }
 
 -- the entries of the tree are those of the bytes
-pub entries_by_tree : {T : Type 0} (view : T → List Entry) (choice : Selection) (bytes : List ℕ) (t : Plain) (r : Result T RunFault) →
-    IsTextOf bytes t → IfOk r (λ v. HasEntries (view v) choice t) → IfOk r (λ v. HaveEntries (view v) choice bytes)
-entries_by_tree view choice bytes t (Ok v) text has = record {
+pub entries_by_tree : {T : Type 0} (view : T → List (Entry Job)) (plan : PlanOptions) (bytes : List ℕ) (t : Plain) (r : Result T RunFault) →
+    IsTextOf bytes t → IfOk r (λ v. HasEntries (view v) plan t) → IfOk r (λ v. HaveEntries (view v) plan bytes)
+entries_by_tree view plan bytes t (Ok v) text has = record {
   items = has.items;
   have = record { tree = t; is_text = text; are_items = has.has };
   are = has.are;
 }
-entries_by_tree view choice bytes t (Err e) text has = tt
+entries_by_tree view plan bytes t (Err e) text has = tt
 
-pub items_by_tree : {T : Type 0} (view : T → List Entry) (choice : Selection) (t : Plain) (r : Result T RunFault) →
-    IfOk r (λ v. HasEntries (view v) choice t) → IfOk r (λ _. (items : List PlainItem) × (items_of t ≡ Ok items))
-items_by_tree view choice t (Ok v) has = (has.items, has.has)
-items_by_tree view choice t (Err e) has = tt
+pub items_by_tree : {T : Type 0} (view : T → List (Entry Job)) (plan : PlanOptions) (t : Plain) (r : Result T RunFault) →
+    IfOk r (λ v. HasEntries (view v) plan t) → IfOk r (λ _. (items : List PlainItem) × (items_of t ≡ Ok items))
+items_by_tree view plan t (Ok v) has = (has.items, has.has)
+items_by_tree view plan t (Err e) has = tt

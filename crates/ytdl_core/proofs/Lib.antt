@@ -1,14 +1,11 @@
-pub mod BestLemmas
-pub mod ChooserLemmas
-pub mod EntryLemmas
+pub mod CommandLemmas
+pub mod CountLemmas
 pub mod FaultLemmas
 pub mod InfoLemmas
 pub mod LimitLemmas
+pub mod LineLemmas
 pub mod MemoryLemmas
-pub mod NameLemmas
-pub mod PickLemmas
 pub mod ReadingLemmas
 pub mod RunLemmas
 pub mod ScriptLemmas
-pub mod StemLemmas
 pub mod ToldLemmas

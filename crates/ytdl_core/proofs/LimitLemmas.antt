@@ -8,12 +8,12 @@ use Rattle.info_tree.specs.Reading.{Has}
 use Rattle.info_tree.specs.declared.tree_fault.TreeFault.{TreeFault}
 use Rattle.info_tree.specs.declared.tree_fault.TreeFault.TheVariants as tree
 use Rattle.info_item.specs.Item.{Item as PlainItem}
-use Rattle.ytdl_core.specs.Selection.{Selection}
-use Rattle.ytdl_core.specs.declared.entry.Entry.{Entry}
+use Rattle.job_plan.specs.Plan.{Job, Entry}
+use Rattle.word_list.specs.Options.{PlanOptions}
 use Rattle.ytdl_core.specs.declared.run_fault.InfoFault.{InfoFault}
 use Rattle.ytdl_core.specs.declared.run_fault.InfoFault.TheVariants.{Tree, Item}
 use Rattle.ytdl_core.specs.Outside.{File}
-use Rattle.ytdl_core.specs.Run.{HaveItems, HaveFault, HaveEntries}
+use Rattle.ytdl_core.specs.Information.{HaveItems, HaveFault, HaveEntries}
 
 -- information that is too long has no other fault
 long_has : (a b : List ℕ) (f : TreeFault) → 67108864 < length a → 67108864 < length b → Has a f → Has b f
@@ -66,16 +66,16 @@ pub items_of_read : (bytes : List ℕ) (items : List PlainItem) → HaveItems by
 items_of_read bytes items have =
     subst (λ b. HaveItems b items) (sym (take_all 67108865 bytes (omega (arith, have.is_text.short)))) have
 
-pub entries_of_whole : (entries : List Entry) (choice : Selection) (bytes : List ℕ) →
-    HaveEntries entries choice (take 67108865 bytes) → HaveEntries entries choice bytes
-entries_of_whole entries choice bytes have = subst (λ b. HaveEntries entries choice b) (all_read bytes have.items have.have) have
+pub entries_of_whole : (entries : List (Entry Job)) (plan : PlanOptions) (bytes : List ℕ) →
+    HaveEntries entries plan (take 67108865 bytes) → HaveEntries entries plan bytes
+entries_of_whole entries plan bytes have = subst (λ b. HaveEntries entries plan b) (all_read bytes have.items have.have) have
 
 -- nothing is left of information that has entries
-pub nothing_left : (told : Option File) (left : Option (List ℕ)) (entries : List Entry) (choice : Selection) (bytes : List ℕ) →
+pub nothing_left : (told : Option File) (left : Option (List ℕ)) (entries : List (Entry Job)) (plan : PlanOptions) (bytes : List ℕ) →
     IfSome told (λ file. (bytes ≡ take 67108865 file.bytes) × (left ≡ Some (drop 67108865 file.bytes))) →
-    HaveEntries entries choice bytes → IfSome told (λ file. left ≡ Some [])
-nothing_left None left entries choice bytes read have = tt
-nothing_left (Some file) left entries choice bytes read have =
+    HaveEntries entries plan bytes → IfSome told (λ file. left ≡ Some [])
+nothing_left None left entries plan bytes read have = tt
+nothing_left (Some file) left entries plan bytes read have =
     let items : HaveItems (take 67108865 file.bytes) have.items = subst (λ b. HaveItems b have.items) read.0 have.have in
     let short : length (take 67108865 file.bytes) ≤ 67108864 = items.is_text.short in
     let none : drop 67108865 file.bytes ≡ [] =

@@ -1,7 +1,8 @@
 -- What the top call answers, exit by exit.
 use Rattle.std.proofs.Common.{◌≡◌, ◌⊎◌, ℕ, List, [], take, drop, refl, sym, ◌∙◌, subst, inl, inr}
 use Rattle.std.specs.Prelude.{Option, Some, None, IfSome, Result, Ok, Err}
-use Rattle.ytdl_core.specs.declared.entry.Entry.{Entry}
+use Rattle.job_plan.specs.Plan.{Job, Entry}
+use Rattle.word_list.specs.Options.{PlanOptions}
 use Rattle.ytdl_core.specs.declared.report.Report.{Report}
 use Rattle.ytdl_core.specs.Built.{Command}
 use Rattle.word_list.specs.declared.fault.OptionFault.{OptionFault}
@@ -13,8 +14,12 @@ use Rattle.ytdl_core.specs.declared.run_fault.RunFault.TheVariants.{Options as W
 use Rattle.info_item.specs.Item.{Item as PlainItem}
 use Rattle.ytdl_core.specs.Outside.{File}
 use Rattle.ytdl_core.specs.Words.{Asks, words_of}
-use Rattle.ytdl_core.specs.Reading.{IsReadFault}
-use Rattle.ytdl_core.specs.Run.{OfFile, OfFaultyFile, HaveItems, HaveFault, HaveEntries, IsOfFault, IsOfItems, IsExactOf, IsExact, IsOfWords, IsFaultOfBytes, IsSinkFault, IsUntold, IsRead, SendsFront}
+use Rattle.ytdl_core.specs.Reading.{ComesOfReading}
+use Rattle.ytdl_core.specs.Information.{HaveItems, HaveFault, HaveEntries}
+use Rattle.ytdl_core.specs.Lines.{Sends}
+use Rattle.ytdl_core.specs.Origin.{Origin, of_words, of_source, of_information, of_sink, of_memory, origin_of}
+use Rattle.ytdl_core.specs.Run.{OfFile, OfFaultyFile, ComesBeside, Leaves, IsOfFault, IsOfItems, IsExact, IsOfWords, IsRead, IsReadBy, SendsFront}
+use Rattle.ytdl_core.specs.Steps.{ComesOfSinks, IsExactOf, IsFaultOfBytes, IsSinkFault, IsUntold}
 use Rattle.ytdl_core.proofs.LimitLemmas.{fault_of_whole, fault_of_read, items_of_read, entries_of_whole}
 
 -- a fault that is not want of memory is that of the words
@@ -41,45 +46,45 @@ out_of_memory words info info_now out out_now = record {
   untouched = λ place other e. cc e;
 }
 
--- a fault that blames no word
-abbrev pub BlamesNoWord : RunFault → Type 0
-BlamesNoWord (Words word fault) = ⊥
-BlamesNoWord (Info fault) = Unit {0}
-BlamesNoWord InfoRead = Unit {0}
-BlamesNoWord (Write which) = Unit {0}
-BlamesNoWord OutOfMemory = Unit {0}
+-- a fault of this origin blames no word
+abbrev pub BlamesNoWord : Origin → Type 0
+BlamesNoWord of_words = ⊥
+BlamesNoWord of_source = Unit {0}
+BlamesNoWord of_information = Unit {0}
+BlamesNoWord (of_sink which) = Unit {0}
+BlamesNoWord of_memory = Unit {0}
 
-pub no_word_of_read : (before now : ℕ) (f : RunFault) → IsReadFault before now f → BlamesNoWord f
-no_word_of_read before now (Words word fault) is = is
-no_word_of_read before now (Info fault) is = tt
-no_word_of_read before now InfoRead is = tt
-no_word_of_read before now (Write which) is = tt
-no_word_of_read before now OutOfMemory is = tt
+pub no_word_of_read : (before now : ℕ) (o : Origin) → ComesOfReading before now o → BlamesNoWord o
+no_word_of_read before now of_words is = is
+no_word_of_read before now of_source is = tt
+no_word_of_read before now of_information is = tt
+no_word_of_read before now (of_sink which) is = tt
+no_word_of_read before now of_memory is = tt
 
-pub no_word_of_bytes : (bytes : List ℕ) (f : RunFault) → IsFaultOfBytes bytes f → BlamesNoWord f
+pub no_word_of_bytes : (bytes : List ℕ) (f : RunFault) → IsFaultOfBytes bytes f → BlamesNoWord (origin_of f)
 no_word_of_bytes bytes (Words word fault) is = is
 no_word_of_bytes bytes (Info fault) is = tt
 no_word_of_bytes bytes InfoRead is = tt
 no_word_of_bytes bytes (Write which) is = tt
 no_word_of_bytes bytes OutOfMemory is = tt
 
-pub no_word_of_sink : (f : RunFault) → IsSinkFault f → BlamesNoWord f
-no_word_of_sink (Words word fault) is = is
-no_word_of_sink (Info fault) is = tt
-no_word_of_sink InfoRead is = tt
-no_word_of_sink (Write which) is = tt
-no_word_of_sink OutOfMemory is = tt
+pub no_word_of_sink : (o : Origin) → ComesOfSinks o → BlamesNoWord o
+no_word_of_sink of_words is = is
+no_word_of_sink of_source is = tt
+no_word_of_sink of_information is = tt
+no_word_of_sink (of_sink which) is = tt
+no_word_of_sink of_memory is = tt
 
 -- words that ask for options have no fault
 not_both : (words : List (List ℕ)) (options : Command) (fault : WordsFault) → Asks words options → words_of words ≡ Err fault → ⊥
 not_both words options fault asks is = let same : (◌≡◌ {A = Result Command WordsFault} (Ok options) (Err fault)) = sym asks ∙ is in cc same
 
 pub asked_err : {I O : Type 0} {info info_now : I} {out out_now : O} (words : List (List ℕ)) (options : Command) (f : RunFault) →
-    Asks words options → BlamesNoWord f → IsOfWords {T = Report} words info info_now out out_now (Err f)
+    Asks words options → BlamesNoWord (origin_of f) → IsOfWords {T = Report} words info info_now out out_now (Err f)
 asked_err words options f asks none = record {
-  blamed = λ place other e. let same : f ≡ Words place other = cc e in absurd (subst BlamesNoWord same none);
+  blamed = λ place other e. let same : f ≡ Words place other = cc e in absurd (subst (λ g. BlamesNoWord (origin_of g)) same none);
   answered = λ place other e. absurd (not_both words options (Bad place other) asks e);
-  untouched = λ place other e. let same : f ≡ Words place other = cc e in absurd (subst BlamesNoWord same none);
+  untouched = λ place other e. let same : f ≡ Words place other = cc e in absurd (subst (λ g. BlamesNoWord (origin_of g)) same none);
 }
 
 pub asked_ok : {I O : Type 0} {info info_now : I} {out out_now : O} (words : List (List ℕ)) (options : Command) (report : Report) →
@@ -106,7 +111,7 @@ each_file (Some file) P each = each file
 pub exact_memory : (words : List (List ℕ)) (told : Option File) → IsExact words told (Err OutOfMemory)
 exact_memory words told = record {
   info = λ info e. cc e;
-  faults = λ options asks. each_file told (λ file. (fault : InfoFault) → HaveFault file.bytes fault → IsOfFault {T = Report} fault (Err OutOfMemory)) (λ file fault have. tt);
+  faults = λ options asks. each_file told (λ file. (fault : InfoFault) → HaveFault file.bytes fault → IsOfFault {T = Report} fault (Err OutOfMemory)) (λ file fault have. inr tt);
   items = λ options asks. each_file told (λ file. (items : List PlainItem) → HaveItems file.bytes items → IsOfItems {T = Report} (Err OutOfMemory)) (λ file items have. tt);
 }
 
@@ -122,14 +127,14 @@ module _ (words : List (List ℕ)) (told : Option File) (options : Command) (byt
     file None named' read' = tt
     file (Some f) named' read' = (named', whole f.bytes (subst AreSo read'.0 so))
 
-  pub entries_of_file : (entries : List Entry) → HaveEntries entries options.selection bytes →
-      OfFile options told (HaveEntries entries options.selection)
+  pub entries_of_file : (entries : List (Entry Job)) → HaveEntries entries options.plan bytes →
+      OfFile options told (HaveEntries entries options.plan)
   entries_of_file entries have =
-      of_file (HaveEntries entries options.selection) (λ b h. entries_of_whole entries options.selection b h) have
+      of_file (HaveEntries entries options.plan) (λ b h. entries_of_whole entries options.plan b h) have
 
   pub fault_of_file : (fault : InfoFault) → HaveFault bytes fault → OfFaultyFile words told fault
   fault_of_file fault have = record {
-    options = options;
+    command = options;
     asks = asks;
     file = of_file (λ b. HaveFault b fault) (λ b h. fault_of_whole b fault h) have;
   }
@@ -156,22 +161,9 @@ module _ (words : List (List ℕ)) (told : Option File) (options : Command) (byt
     info = λ fault e.
         let same : f ≡ Info fault = cc e in
         fault_of_file fault (subst (IsFaultOfBytes bytes) same exact.info);
-    faults = λ other asks_too. by_faults (λ fault. IsOfFault {T = Report} fault (Err f)) (λ fault have. fault_any T f fault (exact.faults fault have));
-    items = λ other asks_too. by_items (IsOfItems {T = Report} (Err f)) (λ items have. items_any T f (exact.items items have));
-  } where
-    fault_any : (U : Type 0) (g : RunFault) (fault : InfoFault) → IsOfFault {T = U} fault (Err g) → IsOfFault {T = Report} fault (Err g)
-    fault_any U (Words word option) fault is = is
-    fault_any U (Info info) fault is = is
-    fault_any U InfoRead fault is = is
-    fault_any U (Write which) fault is = is
-    fault_any U OutOfMemory fault is = is
-
-    items_any : (U : Type 0) (g : RunFault) → IsOfItems {T = U} (Err g) → IsOfItems {T = Report} (Err g)
-    items_any U (Words word option) is = is
-    items_any U (Info info) is = is
-    items_any U InfoRead is = is
-    items_any U (Write which) is = is
-    items_any U OutOfMemory is = is
+    faults = λ other asks_too. by_faults (λ fault. IsOfFault {T = Report} fault (Err f)) exact.faults;
+    items = λ other asks_too. by_items (IsOfItems {T = Report} (Err f)) exact.items;
+  }
 
   pub exact_ok : {T : Type 0} (value : T) (report : Report) → IsExactOf bytes (Ok value) → IsExact words told (Ok report)
   exact_ok value report exact = record {
@@ -184,29 +176,30 @@ module _ (words : List (List ℕ)) (told : Option File) (options : Command) (byt
   exact_sink value f is exact = record {
     info = λ fault e. let same : f ≡ Info fault = cc e in absurd (subst IsSinkFault same is);
     faults = λ other asks_too. by_faults (λ fault. IsOfFault {T = Report} fault (Err f)) (λ fault have. absurd (exact.faults fault have));
-    items = λ other asks_too. by_items (IsOfItems {T = Report} (Err f)) (λ items have. served f is);
+    items = λ other asks_too. by_items (IsOfItems {T = Report} (Err f)) (λ items have. served (origin_of f) is);
   } where
-    served : (g : RunFault) → IsSinkFault g → IsOfItems {T = Report} (Err g)
-    served (Words word option) bad = bad
-    served (Info info) bad = bad
-    served InfoRead bad = tt
-    served (Write which) bad = tt
-    served OutOfMemory bad = tt
+    served : (o : Origin) → ComesOfSinks o → ComesBeside o
+    served of_words bad = bad
+    served of_source bad = tt
+    served of_information bad = bad
+    served (of_sink which) bad = tt
+    served of_memory bad = tt
 
 -- what a sink's fault leaves
-pub untold_sink : (words : List (List ℕ)) (told : Option File) (out out_now err err_now : Option (List ℕ)) (f : RunFault) → IsSinkFault f →
-    SendsFront words told out out_now err err_now → IsUntold words told out out_now err err_now f
-untold_sink words told out out_now err err_now (Words word option) is front = absurd is
-untold_sink words told out out_now err err_now (Info info) is front = absurd is
-untold_sink words told out out_now err err_now InfoRead is front = absurd is
-untold_sink words told out out_now err err_now (Write which) is front = front
-untold_sink words told out out_now err err_now OutOfMemory is front = inr front
+pub untold_sink : (words : List (List ℕ)) (told : Option File) (out out_now err err_now : Option (List ℕ)) (o : Origin) → ComesOfSinks o →
+    SendsFront words told out out_now err err_now →
+    Leaves (Sends [] out out_now err err_now) (SendsFront words told out out_now err err_now) (Sends [] out out_now err err_now) o
+untold_sink words told out out_now err err_now of_words is front = absurd is
+untold_sink words told out out_now err err_now of_source is front = absurd is
+untold_sink words told out out_now err err_now of_information is front = absurd is
+untold_sink words told out out_now err err_now (of_sink which) is front = front
+untold_sink words told out out_now err err_now of_memory is front = inr front
 
 -- how far the source was read where a sink failed
-pub read_sink : (told : Option File) (left : Option (List ℕ)) (f : RunFault) → IsSinkFault f → IfSome told (λ file. left ≡ Some []) →
-    IsRead told left (Err f)
-read_sink told left (Words word option) is none = absurd is
-read_sink told left (Info info) is none = absurd is
-read_sink told left InfoRead is none = tt
-read_sink told left (Write which) is none = none
-read_sink told left OutOfMemory is none = tt
+pub read_sink : (told : Option File) (left : Option (List ℕ)) (o : Origin) → ComesOfSinks o → IfSome told (λ file. left ≡ Some []) →
+    IsReadBy told left o
+read_sink told left of_words is none = absurd is
+read_sink told left of_source is none = absurd is
+read_sink told left of_information is none = absurd is
+read_sink told left (of_sink which) is none = none
+read_sink told left of_memory is none = tt

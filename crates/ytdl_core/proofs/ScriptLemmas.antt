@@ -1,35 +1,35 @@
--- Scripts as lists: pieces one behind another, and what their bytes do to two sinks.
+-- Scripts as lists: chunks one behind another, and what their bytes do to two sinks.
 use Rattle.std.proofs.Common.{◌≡◌, ℕ, zero, suc, get_or, ◌+◌, ◌<◌, List, [], ◌∷◌, ◌++◌, length, take, drop, refl, sym, ◌∙◌, ap, arith, append_assoc, min}
 use Rattle.std.specs.Prelude.{Option, Some, None}
 use Rattle.std.specs.String.{string_bytes}
 use Rattle.std.specs.Io.KnownBytes.{Appends}
 use Rattle.std.proofs.lemmas.List.{append-nil, take-append-le, take-append-drop, take_min, take_more}
 use Rattle.std.proofs.Math.Seq.{take-append-add}
-use Rattle.ytdl_core.specs.declared.lines.Piece.{Piece}
+use Rattle.ytdl_core.specs.declared.lines.Chunk.{Chunk}
 use Rattle.ytdl_core.specs.declared.run_fault.Which.{Which}
 use Rattle.ytdl_core.specs.declared.run_fault.Which.TheVariants as which
 use Rattle.ytdl_core.specs.Lines.{Script, all_to, out_bytes, err_bytes, Sends, SendsSome}
-use Rattle.ytdl_core.specs.Pieces.{script_of}
+use Rattle.ytdl_core.specs.Chunks.{script_of}
 use Rattle.ytdl_core.specs.Outside.{AppendsFront}
 
-pub script_of-append : (xs ys : List Piece) → script_of (xs ++ ys) ≡ script_of xs ++ script_of ys
+pub script_of-append : (xs ys : List Chunk) → script_of (xs ++ ys) ≡ script_of xs ++ script_of ys
 script_of-append [] ys = refl
 script_of-append (x ∷ xs) ys =
     ap (λ s. all_to x.which (string_bytes x.bytes) ++ s) (script_of-append xs ys) ∙
     sym (append_assoc (all_to x.which (string_bytes x.bytes)) (script_of xs) (script_of ys))
 
--- a piece pushed behind others
-pub script_of-push : (old : List Piece) (piece : Piece) →
-    script_of (old ++ piece ∷ []) ≡ script_of old ++ all_to piece.which (string_bytes piece.bytes)
-script_of-push old piece =
-    script_of-append old (piece ∷ []) ∙ ap (λ s. script_of old ++ s) (append-nil (all_to piece.which (string_bytes piece.bytes)))
+-- a chunk pushed behind others
+pub script_of-push : (old : List Chunk) (chunk : Chunk) →
+    script_of (old ++ chunk ∷ []) ≡ script_of old ++ all_to chunk.which (string_bytes chunk.bytes)
+script_of-push old chunk =
+    script_of-append old (chunk ∷ []) ∙ ap (λ s. script_of old ++ s) (append-nil (all_to chunk.which (string_bytes chunk.bytes)))
 
 pub all_to-append : (w : Which) (xs ys : List ℕ) → all_to w (xs ++ ys) ≡ all_to w xs ++ all_to w ys
 all_to-append w [] ys = refl
 all_to-append w (x ∷ xs) ys = ap (λ s. (w, x) ∷ s) (all_to-append w xs ys)
 
--- a last piece that took one more line to the same sink
-pub script_of-grown : (front : List Piece) (last grown line : Piece) → grown.which ≡ last.which → last.which ≡ line.which →
+-- a last chunk that took one more line to the same sink
+pub script_of-grown : (front : List Chunk) (last grown line : Chunk) → grown.which ≡ last.which → last.which ≡ line.which →
     string_bytes grown.bytes ≡ string_bytes last.bytes ++ string_bytes line.bytes →
     script_of (front ++ grown ∷ []) ≡ script_of (front ++ last ∷ []) ++ all_to line.which (string_bytes line.bytes)
 script_of-grown front last grown line same sink bytes =
@@ -91,7 +91,7 @@ sends_more s t out out' out'' err err' err'' first second = record {
   to_err = rw (err_bytes-append s t) (appends_more err err' err'' (err_bytes s) (err_bytes t) first.to_err second.to_err);
 }
 
--- a piece that one of the sinks took
+-- a chunk that one of the sinks took
 pub sends_out : (w : Which) (bytes taken : List ℕ) (out out' err : Option (List ℕ)) → w ≡ which.Out → taken ≡ bytes →
     Appends out out' taken → Sends (all_to w bytes) out out' err err
 sends_out w bytes taken out out' err is same took = record {
@@ -110,7 +110,7 @@ some_of : (w : Which) (bytes : List ℕ) (n : ℕ) (out out' err err' : Option (
     Sends (all_to w (take n bytes)) out out' err err' → SendsSome (all_to w bytes) out out' err err'
 some_of w bytes n out out' err err' sends = record { count = n; front = rw (all_to-take w n bytes) sends }
 
--- a front of a piece
+-- a front of a chunk
 pub some_out : (w : Which) (bytes taken : List ℕ) (out out' err : Option (List ℕ)) → w ≡ which.Out → taken ≡ bytes →
     AppendsFront out out' taken → SendsSome (all_to w bytes) out out' err err
 some_out w bytes taken None out' err is same took =
@@ -149,19 +149,19 @@ some_front s t out out' err err' some = record {
 pub sends_nothing : (out err : Option (List ℕ)) → Sends [] out out err err
 sends_nothing out err = record { to_out = appends_none out; to_err = appends_none err }
 
--- the script of pieces, at one of them
-pub script_up_to : (pieces : List Piece) (k : ℕ) (piece : Piece) → k < length pieces → piece ≡ get_or pieces k piece →
-    script_of (take (k + 1) pieces) ≡ script_of (take k pieces) ++ all_to piece.which (string_bytes piece.bytes)
-script_up_to pieces k piece inside is =
-    let one : take (k + 1) pieces ≡ take k pieces ++ piece ∷ [] =
-    take_more pieces k piece inside ∙ ap (λ p. take k pieces ++ p ∷ []) (sym is) in
-    rw one (script_of-push (take k pieces) piece)
+-- the script of chunks, at one of them
+pub script_up_to : (chunks : List Chunk) (k : ℕ) (chunk : Chunk) → k < length chunks → chunk ≡ get_or chunks k chunk →
+    script_of (take (k + 1) chunks) ≡ script_of (take k chunks) ++ all_to chunk.which (string_bytes chunk.bytes)
+script_up_to chunks k chunk inside is =
+    let one : take (k + 1) chunks ≡ take k chunks ++ chunk ∷ [] =
+    take_more chunks k chunk inside ∙ ap (λ p. take k chunks ++ p ∷ []) (sym is) in
+    rw one (script_of-push (take k chunks) chunk)
 
-pub script_at : (pieces : List Piece) (k : ℕ) (piece : Piece) → k < length pieces → piece ≡ get_or pieces k piece →
-    script_of pieces ≡ (script_of (take k pieces) ++ all_to piece.which (string_bytes piece.bytes)) ++ script_of (drop (k + 1) pieces)
-script_at pieces k piece inside is =
+pub script_at : (chunks : List Chunk) (k : ℕ) (chunk : Chunk) → k < length chunks → chunk ≡ get_or chunks k chunk →
+    script_of chunks ≡ (script_of (take k chunks) ++ all_to chunk.which (string_bytes chunk.bytes)) ++ script_of (drop (k + 1) chunks)
+script_at chunks k chunk inside is =
     rw (
-      ← script_up_to pieces k piece inside is,
-      ← script_of-append (take (k + 1) pieces) (drop (k + 1) pieces),
-      take-append-drop (k + 1) pieces,
+      ← script_up_to chunks k chunk inside is,
+      ← script_of-append (take (k + 1) chunks) (drop (k + 1) chunks),
+      take-append-drop (k + 1) chunks,
     ) refl

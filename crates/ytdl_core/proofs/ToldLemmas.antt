@@ -1,5 +1,5 @@
 -- What a fault's own line adds to what its answer left in the sinks.
-use Rattle.std.proofs.Common.{◌≡◌, ◌⊎◌, ◌∙◌, ℕ, zero, suc, ◌≤◌, List, [], ◌++◌, take, refl, ap, inl, inr}
+use Rattle.std.proofs.Common.{◌≡◌, ◌⊎◌, ◌∙◌, ℕ, zero, suc, ◌≤◌, List, [], ◌++◌, take, refl, ap, subst, inl, inr}
 use Rattle.std.specs.Prelude.{Option, Some, None}
 use Rattle.std.specs.Io.KnownBytes.{Appends}
 use Rattle.std.proofs.lemmas.List.{append-nil}
@@ -7,8 +7,11 @@ use Rattle.text_base.specs.Causes.{Rose}
 use Rattle.ytdl_core.specs.declared.run_fault.RunFault.{RunFault}
 use Rattle.ytdl_core.specs.declared.run_fault.RunFault.TheVariants.{Options, Info, InfoRead, Write, OutOfMemory}
 use Rattle.ytdl_core.specs.Outside.{File, AppendsFront}
-use Rattle.ytdl_core.specs.Lines.{Script, Sends, TellsLine, fault_line, err_bytes, lines_of}
-use Rattle.ytdl_core.specs.Run.{IsUntold, IsTold, SendsLine, SendsFront}
+use Rattle.ytdl_core.specs.Lines.{Script, Sends, TellsLine, err_bytes, said}
+use Rattle.ytdl_core.specs.Origin.{Origin, of_words, of_source, of_information, of_sink, of_memory, origin_of}
+use Rattle.ytdl_core.specs.Run.{Leaves, IsTold, SendsLine, SendsFront}
+use Rattle.ytdl_core.specs.Steps.{IsUntold}
+use Rattle.ytdl_core.specs.Texts.{fault_line}
 use Rattle.ytdl_core.proofs.FaultLemmas.{rose_since}
 use Rattle.ytdl_core.proofs.ScriptLemmas.{appends_more}
 
@@ -32,6 +35,21 @@ appends_nothing None b c x e f = tt
 appends_nothing (Some xs) None c x e f = absurd e
 appends_nothing (Some xs) (Some ys) None x e f = absurd f
 appends_nothing (Some xs) (Some ys) (Some zs) x e f = f ∙ append-nil ys ∙ e
+
+-- a fault of this origin has no line
+abbrev pub ComesSilently : Origin → Type 0
+ComesSilently of_words = ⊥
+ComesSilently of_source = ⊥
+ComesSilently of_information = ⊥
+ComesSilently (of_sink which) = Unit {0}
+ComesSilently of_memory = Unit {0}
+
+silent_line : (f : RunFault) → ComesSilently (origin_of f) → fault_line f ≡ []
+silent_line (Options word option) silent = absurd silent
+silent_line (Info info) silent = absurd silent
+silent_line InfoRead silent = absurd silent
+silent_line (Write which) silent = refl
+silent_line OutOfMemory silent = refl
 
 module _ (words : List (List ℕ)) (told : Option File) (out out_now err err_then err_now : Option (List ℕ))
     (faults faults_then faults_now refusals refusals_then refusals_now : ℕ) (later : faults ≤ faults_then) (later_memory : refusals ≤ refusals_then) where
@@ -58,11 +76,14 @@ module _ (words : List (List ℕ)) (told : Option File) (out out_now err err_the
 
   front_told : Appends err_then err_now [] → SendsFront words told out out_now err err_then → SendsFront words told out out_now err err_now
   front_told nothing front = record {
-    options = front.options;
-    asks = front.asks;
+    command = front.command;
     entries = front.entries;
-    are_entries = front.are_entries;
-    front = record { count = front.front.count; front = nothing_told (take front.front.count (lines_of front.options 1 front.entries)) nothing front.front.front };
+    ends = front.ends;
+    ended = front.ended;
+    front = record {
+      count = front.front.count;
+      front = nothing_told (take front.front.count (said front.command.quiet front.entries front.ends)) nothing front.front.front;
+    };
   }
 
   memory_told : Appends err_then err_now [] → Sends [] out out_now err err_then ⊎ SendsFront words told out out_now err err_then →
@@ -70,12 +91,20 @@ module _ (words : List (List ℕ)) (told : Option File) (out out_now err err_the
   memory_told nothing (inl sends) = inl (nothing_told [] nothing sends)
   memory_told nothing (inr front) = inr (front_told nothing front)
 
+  -- what a fault of an origin leaves, this line told
+  told_by : (o : Origin) (line : List ℕ) → (ComesSilently o → line ≡ []) →
+      Leaves (Sends [] out out_now err err_then) (SendsFront words told out out_now err err_then) (Sends [] out out_now err err_then) o →
+      TellsLine line err_then err_now faults_then faults_now refusals_then refusals_now →
+      Leaves (SendsLine line out out_now err err_now faults faults_now refusals refusals_now)
+      (SendsFront words told out out_now err err_now) (Sends [] out out_now err err_now) o
+  told_by of_words line silent untold tells = line_told line untold tells
+  told_by of_source line silent untold tells = line_told line untold tells
+  told_by of_information line silent untold tells = line_told line untold tells
+  told_by (of_sink which) line silent untold tells = front_told (front_of_none err_then err_now (subst (λ l. AppendsFront err_then err_now l) (silent tt) tells.front)) untold
+  told_by of_memory line silent untold tells = memory_told (front_of_none err_then err_now (subst (λ l. AppendsFront err_then err_now l) (silent tt) tells.front)) untold
+
   -- what a fault leaves, its own line told
   pub all_told : (f : RunFault) → IsUntold words told out out_now err err_then f →
       TellsLine (fault_line f) err_then err_now faults_then faults_now refusals_then refusals_now →
       IsTold words told out out_now err err_now faults faults_now refusals refusals_now f
-  all_told (Options word option) untold tells = line_told (fault_line (Options word option)) untold tells
-  all_told (Info info) untold tells = line_told (fault_line (Info info)) untold tells
-  all_told InfoRead untold tells = line_told (fault_line InfoRead) untold tells
-  all_told (Write which) untold tells = front_told (front_of_none err_then err_now tells.front) untold
-  all_told OutOfMemory untold tells = memory_told (front_of_none err_then err_now tells.front) untold
+  all_told f untold tells = told_by (origin_of f) (fault_line f) (silent_line f) untold tells

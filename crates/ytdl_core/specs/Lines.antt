@@ -1,23 +1,16 @@
--- What is printed: a line for each entry, or one for a fault. Items, words and formats are counted from 1 there, bytes from 0.
-use Rattle.std.specs.Prelude.{◌⊎◌, ℕ, zero, suc, ◌+◌, ◌≤◌, List, [], ◌∷◌, ◌++◌, map, take, Bool, true, false, if◌then◌else◌, codes, decimal, Option}
+-- What is printed of entries, and what two sinks take of it.
+use Rattle.std.specs.Prelude.{◌⊎◌, ℕ, ◌≤◌, List, [], ◌∷◌, ◌++◌, map, take, Bool, true, false, if◌then◌else◌, codes, Option, Result, Ok, Err as Fails}
 use Rattle.std.specs.Io.KnownBytes.{Appends}
 use Rattle.text_base.specs.Causes.{Rose}
-use Rattle.info_tree.specs.declared.tree_fault.TreeFault.{TreeFault}
-use Rattle.info_tree.specs.declared.tree_fault.TreeFault.TheVariants as tree
-use Rattle.info_item.specs.declared.item_fault.ItemFault.{ItemFault}
-use Rattle.info_item.specs.declared.item_fault.ItemFault.TheVariants as item
+use Rattle.job_plan.specs.Plan.{Job, Entry}
+use Rattle.job_plan.specs.declared.fault.JobFault.{JobFault}
+use Rattle.ytdl_core.specs.declared.report.End.{End}
+use Rattle.ytdl_core.specs.declared.report.End.TheVariants.{Shown, Fault}
+use Rattle.ytdl_core.specs.declared.report.JobEnd.{JobEnd}
 use Rattle.ytdl_core.specs.declared.run_fault.Which.{Which}
 use Rattle.ytdl_core.specs.declared.run_fault.Which.TheVariants.{Out, Err}
-use Rattle.word_list.specs.declared.fault.OptionFault.{OptionFault}
-use Rattle.word_list.specs.declared.fault.OptionFault.TheVariants as option
-use Rattle.ytdl_core.specs.declared.run_fault.InfoFault.{InfoFault}
-use Rattle.ytdl_core.specs.declared.run_fault.InfoFault.TheVariants.{Tree, Item}
-use Rattle.ytdl_core.specs.declared.run_fault.RunFault.{RunFault}
-use Rattle.ytdl_core.specs.declared.run_fault.RunFault.TheVariants.{Options as Words, Info, InfoRead, Write, OutOfMemory}
-use Rattle.ytdl_core.specs.Built.{Command}
 use Rattle.ytdl_core.specs.Outside.{AppendsFront}
-use Rattle.ytdl_core.specs.declared.entry.Entry.{Entry}
-use Rattle.ytdl_core.specs.declared.entry.Entry.TheVariants as entry
+use Rattle.ytdl_core.specs.Texts.{job_line}
 
 -- bytes in the order in which they are written, each with the sink that it goes to
 abbrev pub Script : Type 0
@@ -52,72 +45,34 @@ pub record SendsSome (script : Script) (out out_now err err_now : Option (List �
   pub count : ℕ
   pub front : Sends (take count script) out out_now err err_now
 
--- a name on a line: its stem, a point and its extension
-abbrev pub name_line : List ℕ → List ℕ → List ℕ
-name_line stem extension = stem ++ codes "." ++ extension ++ codes "\n"
+-- a text on a line of its own
+abbrev pub own_line : List ℕ → List ℕ
+own_line text = text ++ codes "\n"
 
--- so many times the same line
-unfoldable pub repeated : ℕ → List ℕ → List ℕ
-repeated zero line = []
-repeated (suc count) line = repeated count line ++ line
+-- texts, each on a line of its own
+abbrev pub each_line : List (List ℕ) → List ℕ
+each_line [] = []
+each_line (text ∷ texts) = own_line text ++ each_line texts
 
--- what a name is printed as: by itself for each print, and as simulated where the run is not quiet
-abbrev pub name_lines : Command → List ℕ → List ℕ
-name_lines options line = repeated options.prints line ++ (if options.quiet then [] else codes "[simulate] " ++ line)
+-- what is printed of a job that is not downloaded: its texts, and then its final name where the run is not quiet
+abbrev pub job_lines : Bool → Job → List ℕ
+job_lines quiet job = each_line job.printed ++ (if quiet then [] else codes "[simulate] " ++ own_line job.final_name)
 
--- the lines of an entry, by its item's number
-abbrev pub line_of : Command → ℕ → Entry → Script
-line_of options number (entry.Shown stem extension) = all_to Out (name_lines options (name_line stem extension))
-line_of options number entry.NoFormat = all_to Err (codes "ERROR: item " ++ decimal number ++ codes ": requested format is not available\n")
-line_of options number entry.NotBuilt = all_to Err (codes "ERROR: item " ++ decimal number ++ codes ": not built\n")
+-- what is printed of what became of a choice, where it is a job
+abbrev pub shown_lines : Bool → Result Job JobFault → List ℕ
+shown_lines quiet (Ok job) = job_lines quiet job
+shown_lines quiet (Fails fault) = []
 
--- the lines of entries, the first of which is that of the item with this number
-abbrev pub lines_of : Command → ℕ → List Entry → Script
-lines_of options number [] = []
-lines_of options number (first ∷ rest) = line_of options number first ++ lines_of options (number + 1) rest
+-- what is said of an entry by its end: the lines of its job, or the line of a fault, which names its item
+abbrev pub said_of : Bool → Entry Job → End → Script
+said_of quiet entry Shown = all_to Out (shown_lines quiet entry.outcome)
+said_of quiet entry (Fault fault) = all_to Err (job_line entry.item fault)
 
--- why the bytes are no tree
-abbrev pub tree_text : TreeFault → List ℕ
-tree_text (tree.Syntax at) = codes "bad JSON at byte " ++ decimal at
-tree_text (tree.Depth at) = codes "too deep at byte " ++ decimal at
-tree_text (tree.Number at fault) = codes "bad number at byte " ++ decimal at
-tree_text (tree.NotUtf8 at) = codes "not UTF-8 at byte " ++ decimal at
-tree_text tree.TooLong = codes "too long"
-tree_text tree.OutOfMemory = []
-
--- why the tree has no items
-abbrev pub item_text : ItemFault → List ℕ
-item_text (item.NotItem k) = codes "item " ++ decimal (k + 1) ++ codes " is no map"
-item_text (item.NoId k) = codes "item " ++ decimal (k + 1) ++ codes " has no id"
-item_text (item.NoFormats k) = codes "item " ++ decimal (k + 1) ++ codes " has no formats"
-item_text (item.FormatId k j) = codes "item " ++ decimal (k + 1) ++ codes " has a bad format"
-item_text item.OutOfMemory = []
-
--- why the information file is refused
-abbrev pub info_text : InfoFault → List ℕ
-info_text (Tree fault) = tree_text fault
-info_text (Item fault) = item_text fault
-
--- why a word is refused
-abbrev pub option_text : OptionFault → List ℕ
-option_text option.Unknown = codes "unknown option"
-option_text option.NeedsValue = codes "value missing"
-option_text option.BadValue = codes "bad value"
-option_text (option.Selector fault) = codes "bad selector"
-option_text (option.Sort fault) = codes "bad sort field"
-option_text (option.Template fault) = codes "bad template"
-option_text option.NoInfo = codes "no --load-info-json"
-option_text option.Extra = codes "unexpected word"
-option_text option.TakesNone = codes "takes no value"
-option_text option.NotBuilt = codes "not built"
-
--- the line of a fault; a sink that failed and want of memory have none
-abbrev pub fault_line : RunFault → List ℕ
-fault_line (Words word fault) = codes "ERROR: word " ++ decimal (word + 1) ++ codes ": " ++ option_text fault ++ codes "\n"
-fault_line (Info fault) = codes "ERROR: info: " ++ info_text fault ++ codes "\n"
-fault_line InfoRead = codes "ERROR: info: reading failed\n"
-fault_line (Write which) = []
-fault_line OutOfMemory = []
+-- what is said of entries by their ends, in their order
+abbrev pub said : Bool → List (Entry Job) → List JobEnd → Script
+said quiet [] ends = []
+said quiet (entry ∷ entries) [] = []
+said quiet (entry ∷ entries) (end ∷ ends) = said_of quiet entry end.end ++ said quiet entries ends
 
 -- A sink took a front of a line, and all of it unless it failed or was out of memory.
 pub record TellsLine (line : List ℕ) (err err_now : Option (List ℕ)) (faults faults_now refusals refusals_now : ℕ) : Type 0 where

@@ -1,5 +1,5 @@
 ghost use Rattle.std.specs.Prelude.{◌≡◌, ◌++◌, ◌+◌, ◌≤◌, codes, decimal, length};
-ghost use Rattle.ytdl_core.specs.Lines.{fault_line, option_text};
+ghost use Rattle.ytdl_core.specs.Texts.{fault_line, job_text, option_text};
 ghost use Rattle.ytdl_core.specs.declared.run_fault.InfoFault.TheVariants as info;
 ghost use Rattle.ytdl_core.specs.declared.run_fault.RunFault.TheVariants as fault;
 
@@ -8,20 +8,21 @@ use arrayvec::ArrayString;
 use info_item::ItemFault;
 use info_tree::TreeFault;
 use itoa::Buffer;
+use job_plan::JobFault;
 use word_list::OptionFault;
 
 /// A line of a fault: at most 40 bytes of text, and a number.
 pub type Line = ArrayString<80>;
 
 /// The line of a fault; none for a sink that failed and for want of memory.
-pub fn fault_line(fault: RunFault) -> Line
-    ensures { result.bytes ≡ fault_line fault }
+pub fn fault_line(fault: &RunFault) -> Line
+    ensures { result.bytes ≡ fault_line fault.now }
 {
     match fault {
-        RunFault::Options { word, fault } => option_line(word, fault),
+        RunFault::Options { word, fault } => option_line(*word, *fault),
         RunFault::Info { fault } => match fault {
-            InfoFault::Tree(fault) => tree_line(fault),
-            InfoFault::Item(fault) => item_line(fault),
+            InfoFault::Tree(fault) => tree_line(*fault),
+            InfoFault::Item(fault) => item_line(*fault),
         },
         RunFault::InfoRead => unnumbered("ERROR: info: reading failed\n"),
         RunFault::Write { .. } | RunFault::OutOfMemory => unnumbered(""),
@@ -56,6 +57,21 @@ fn option_text(option: OptionFault) -> &'static str
         OptionFault::Extra => "unexpected word",
         OptionFault::TakesNone => "takes no value",
         OptionFault::NotBuilt => "not built",
+    }
+}
+
+/// Why there is no job.
+pub fn job_text(fault: JobFault) -> &'static str
+    ensures { result.now ≡ job_text fault }
+{
+    match fault {
+        JobFault::NoFormat => "requested format is not available",
+        JobFault::Fill => "filled text is too long",
+        JobFault::Path(_) => "bad file name",
+        JobFault::NameLong => "file name is too long",
+        JobFault::Clash { .. } => "file name is taken",
+        JobFault::Pieces { .. } => "nothing to fetch",
+        JobFault::TooMany => "more than 10000 choices",
     }
 }
 

@@ -1,28 +1,23 @@
 //! The top call: what the words of a command line ask for, over any source of information and any sinks.
 #![tactic(auto)]
 
-mod best;
 mod built;
-mod choice;
 mod command;
-mod entry;
 mod fault_line;
 mod info_mem;
 mod lines;
-mod pick;
 mod reading;
 mod report;
 mod run_fault;
-mod selection;
 mod sink;
 mod sink_mem;
 mod source;
-mod stems;
 mod writing;
 
 pub use command::run;
 pub use info_mem::InfoMem;
-pub use report::{End, JobEnd, JobFault, Report, status};
+pub use job_plan::JobFault;
+pub use report::{End, JobEnd, Report, status};
 pub use run_fault::{InfoFault, RunFault, Which};
 pub use sink::Sink;
 pub use sink_mem::SinkMem;

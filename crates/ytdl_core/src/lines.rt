@@ -1,109 +1,104 @@
-ghost use Rattle.std.specs.Prelude.{◌≡◌, ◌+◌, ◌++◌, ◌<◌, ◌^◌, IfOk, OnOk, codes};
-ghost use Rattle.std.specs.String.{string_bytes};
-ghost use Rattle.ytdl_core.specs.Lines.{line_of, lines_of, name_line, name_lines, all_to};
-ghost use Rattle.ytdl_core.specs.Pieces.{script_of};
-ghost use Rattle.ytdl_core.specs.Views.{plain_command};
+//! What is said of entries, chunk by chunk.
 
-use crate::built::Command;
-use crate::entry::Entry;
+ghost use Rattle.std.specs.Prelude.{◌≡◌, ◌++◌, IfOk, OnOk, map};
+ghost use Rattle.std.specs.String.{string_bytes};
+ghost use Rattle.job_plan.specs.Views.{plain_entry, plain_job};
+ghost use Rattle.ytdl_core.specs.Chunks.{script_of};
+ghost use Rattle.ytdl_core.specs.Lines.{all_to, each_line, job_lines, own_line, said, said_of};
+ghost use Rattle.ytdl_core.specs.Report.{simulated_end};
+
+use crate::fault_line::job_text;
 use crate::run_fault::Which;
+use job_plan::{Job, JobOr};
 use std::alloc::{AllocError, Global};
-use text_base::OutOfMemory;
+use text_base::{OutOfMemory, Text};
 
 /// Bytes for one of the sinks.
 #[derive(Drop)]
-pub struct Piece {
+pub struct Chunk {
     pub which: Which,
     pub bytes: String,
 }
 
-/// The lines of entries, in as few pieces as keep their order.
-pub fn pieces(
-    alloc: Global,
-    command: &Command,
-    entries: &[Entry],
-) -> Result<Vec<Piece>, OutOfMemory>
-    ensures { IfOk result (λ pieces. script_of pieces.items ≡ lines_of (plain_command command.now) 1 entries.now) }
+/// What is said of entries that are not downloaded, in as few chunks as keep their order.
+pub fn chunks(alloc: Global, quiet: bool, entries: &[JobOr]) -> Result<Vec<Chunk>, OutOfMemory>
+    ensures { IfOk result (λ chunks. script_of chunks.items ≡
+        said quiet (map plain_entry entries.now) (map simulated_end (map plain_entry entries.now))) }
 {
-    let mut pieces = Vec::new(alloc);
-    for (place, entry) in entries.iter().enumerate() {
-        let line = line(alloc, command, place + 1, entry)?;
-        add(&mut pieces, line)?;
+    let mut chunks = Vec::new(alloc);
+    for entry in entries {
+        let chunk = chunk_of(alloc, quiet, entry)?;
+        add(&mut chunks, chunk)?;
     }
-    Ok(pieces)
+    Ok(chunks)
 }
 
-/// Puts a line behind pieces: to the last of them, where that goes to the same sink.
-fn add(pieces: &mut Vec<Piece>, line: Piece) -> Result<(), OutOfMemory>
-    ensures { OnOk result (script_of pieces.new.items ≡
-        script_of pieces.old.items ++ all_to line.which (string_bytes line.bytes)) }
+/// Puts a chunk behind others: to the last of them, where that goes to the same sink.
+fn add(chunks: &mut Vec<Chunk>, chunk: Chunk) -> Result<(), OutOfMemory>
+    ensures { OnOk result (script_of chunks.new.items ≡
+        script_of chunks.old.items ++ all_to chunk.which (string_bytes chunk.bytes)) }
 {
-    let Some(mut last) = pieces.pop() else {
-        pieces.push(line)?;
+    let Some(mut last) = chunks.pop() else {
+        chunks.push(chunk)?;
         return Ok(());
     };
-    if last.which != line.which {
-        pieces.push(last)?;
-        pieces.push(line)?;
+    if last.which != chunk.which {
+        chunks.push(last)?;
+        chunks.push(chunk)?;
         return Ok(());
     }
-    last.bytes.push_str(line.bytes.as_str())?;
-    pieces.push(last)?;
+    last.bytes.push_str(chunk.bytes.as_str())?;
+    chunks.push(last)?;
     Ok(())
 }
 
-/// The lines of an entry, by its item's number.
-fn line(
-    alloc: Global,
-    command: &Command,
-    number: usize,
-    entry: &Entry,
-) -> Result<Piece, OutOfMemory>
-    ensures { IfOk result (λ piece. all_to piece.which (string_bytes piece.bytes) ≡
-        line_of (plain_command command.now) number entry.now) }
+/// What is said of an entry that is not downloaded.
+fn chunk_of(alloc: Global, quiet: bool, entry: &JobOr) -> Result<Chunk, OutOfMemory>
+    ensures { IfOk result (λ chunk. all_to chunk.which (string_bytes chunk.bytes) ≡
+        said_of quiet (plain_entry entry.now) (simulated_end (plain_entry entry.now)).end) }
 {
     match entry {
-        Entry::Shown { stem, extension } => Ok(Piece {
+        JobOr::Job(job) => Ok(Chunk {
             which: Which::Out,
-            bytes: name_lines(alloc, command, stem.as_str(), extension.as_str())?,
+            bytes: job_lines(alloc, quiet, job)?,
         }),
-        Entry::NoFormat => Ok(Piece {
-            which: Which::Err,
-            bytes: format!(in alloc; "ERROR: item {number}: requested format is not available\n")?,
-        }),
-        Entry::NotBuilt => Ok(Piece {
-            which: Which::Err,
-            bytes: format!(in alloc; "ERROR: item {number}: not built\n")?,
-        }),
+        JobOr::Fault { item, fault } => {
+            let number = *item as u128 + 1;
+            let text = job_text(*fault);
+            Ok(Chunk {
+                which: Which::Err,
+                bytes: format!(in alloc; "ERROR: item {number}: {text}\n")?,
+            })
+        }
     }
 }
 
-/// A name by itself for each print, and as simulated where the run is not quiet.
-fn name_lines(
-    alloc: Global,
-    command: &Command,
-    stem: &str,
-    extension: &str,
-) -> Result<String, AllocError>
-    ensures { IfOk result (λ lines. string_bytes lines ≡
-        name_lines (plain_command command.now) (name_line stem.now extension.now)) }
+/// The texts of a job, each on a line, and its name as simulated where the run is not quiet.
+fn job_lines(alloc: Global, quiet: bool, job: &Job) -> Result<String, AllocError>
+    ensures { IfOk result (λ lines. string_bytes lines ≡ job_lines quiet (plain_job job.now)) }
 {
     let mut lines = String::new(alloc);
-    for _print in 0..command.prints {
-        push_name(&mut lines, stem, extension)?;
+    push_lines(&mut lines, &job.printed)?;
+    if quiet {
+        return Ok(lines);
     }
-    if !command.quiet {
-        lines.push_str("[simulate] ")?;
-        push_name(&mut lines, stem, extension)?;
-    }
+    lines.push_str("[simulate] ")?;
+    push_line(&mut lines, job.final_name.as_str())?;
     Ok(lines)
 }
 
-fn push_name(lines: &mut String, stem: &str, extension: &str) -> Result<(), AllocError>
-    ensures { OnOk result (string_bytes lines.new ≡ string_bytes lines.old ++ name_line stem.now extension.now) }
+fn push_lines(lines: &mut String, texts: &[Text]) -> Result<(), AllocError>
+    ensures { OnOk result (string_bytes lines.new ≡ string_bytes lines.old ++ each_line texts.now) }
 {
-    lines.push_str(stem)?;
-    lines.push_str(".")?;
-    lines.push_str(extension)?;
+    for text in texts {
+        push_line(lines, text.as_str())?;
+    }
+    Ok(())
+}
+
+fn push_line(lines: &mut String, text: &str) -> Result<(), AllocError>
+    ensures { OnOk result (string_bytes lines.new ≡ string_bytes lines.old ++ own_line text.now) }
+{
+    lines.push_str(text)?;
     lines.push_str("\n")
 }

@@ -1,26 +1,19 @@
-ghost use Rattle.std.specs.Prelude.{◌≡◌, IfOk};
-ghost use Rattle.ytdl_core.specs.Report.{end_of, ends_of, status_of, is_shown};
+ghost use Rattle.std.specs.Prelude.{◌≡◌, IfOk, map};
 ghost use Rattle.std.specs.List.{list_all};
+ghost use Rattle.job_plan.specs.Views.{plain_entry};
+ghost use Rattle.ytdl_core.specs.Report.{Fits, simulated_end, status_of, is_shown};
 
-use crate::entry::Entry;
 use crate::run_fault::RunFault;
+use job_plan::{JobFault, JobOr};
 use std::alloc::Global;
 use text_base::OutOfMemory;
-
-/// Why an entry has no name.
-#[derive(Clone, Copy, Debug, PartialEq, Eq)]
-pub enum JobFault {
-    /// The item has no format that was asked for.
-    NoFormat,
-}
 
 /// What became of an entry.
 #[derive(Clone, Copy, Debug, PartialEq, Eq)]
 pub enum End {
-    /// Its name was printed.
+    /// What is printed of its job was printed.
     Shown,
-    /// What it needs is not built.
-    NotBuilt,
+    /// There is no job.
     Fault(JobFault),
 }
 
@@ -37,25 +30,30 @@ pub struct Report {
     pub ends: Vec<JobEnd>,
 }
 
-/// The report of entries.
-pub fn report_of(alloc: Global, entries: &[Entry]) -> Result<Report, OutOfMemory>
-    ensures { IfOk result (λ report. report.ends.items ≡ ends_of 0 entries.now) }
+/// The report of entries of which nothing is downloaded.
+pub fn report_of(alloc: Global, entries: &[JobOr]) -> Result<Report, OutOfMemory>
+    ensures { IfOk result (λ report. Fits (map plain_entry entries.now) report.ends.items) }
 {
     let mut ends = Vec::new(alloc);
-    for (item, entry) in entries.iter().enumerate() {
-        let end = end_of(entry);
-        ends.push(JobEnd { item, end })?;
+    for entry in entries {
+        ends.push(simulated_end(entry))?;
     }
     Ok(Report { ends })
 }
 
-fn end_of(entry: &Entry) -> End
-    ensures { result ≡ end_of entry.now }
+/// The end of an entry that is not downloaded.
+fn simulated_end(entry: &JobOr) -> JobEnd
+    ensures { result ≡ simulated_end (plain_entry entry.now) }
 {
     match entry {
-        Entry::Shown { .. } => End::Shown,
-        Entry::NoFormat => End::Fault(JobFault::NoFormat),
-        Entry::NotBuilt => End::NotBuilt,
+        JobOr::Job(job) => JobEnd {
+            item: job.item,
+            end: End::Shown,
+        },
+        JobOr::Fault { item, fault } => JobEnd {
+            item: *item,
+            end: End::Fault(*fault),
+        },
     }
 }
 

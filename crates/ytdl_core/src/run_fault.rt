@@ -19,7 +19,7 @@ pub enum Which {
 }
 
 /// Why there is no report.
-#[derive(Clone, Copy, Debug, PartialEq, Eq)]
+#[derive(Debug, PartialEq, Eq, Drop)]
 pub enum RunFault {
     /// The first word at fault. Words count from 0, and the number of words is where they end too early.
     Options { word: usize, fault: OptionFault },

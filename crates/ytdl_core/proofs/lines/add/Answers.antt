@@ -10,12 +10,12 @@ is_true false e = cc e
 
 pub returns-then-ne : goal.returns-then-ne
 returns-then-ne c =
-    let back : c.push-then-ne.new.self.items ≡ c.args.pieces.now.items = c.in_ok-push-2.ensures.items ∙ sym c.in-Some.ensures.items in
-    rw (c.in_ok-push-3.ensures.items, back) (script_of-push c.args.pieces.now.items c.args.line)
+    let back : c.push-then-ne.new.self.items ≡ c.args.chunks.now.items = c.in_ok-push-2.ensures.items ∙ sym c.in-Some.ensures.items in
+    rw (c.in_ok-push-3.ensures.items, back) (script_of-push c.args.chunks.now.items c.args.chunk)
 
 pub returns : goal.returns
 returns c =
-    let sink : c.in-Some.last.which ≡ c.args.line.which = same_true the_type (search rules) _ _ (is_true _ c.if-ne.ensures) in
+    let sink : c.in-Some.last.which ≡ c.args.chunk.which = same_true the_type (search rules) _ _ (is_true _ c.if-ne.ensures) in
     rw (c.in_ok-push-4.ensures.items, c.in-Some.ensures.items)
-    (script_of-grown c.pop.new.self.items c.in-Some.last (record { which = c.in-Some.last.which; bytes = c.push_str.new.self }) c.args.line
+    (script_of-grown c.pop.new.self.items c.in-Some.last (record { which = c.in-Some.last.which; bytes = c.push_str.new.self }) c.args.chunk
     refl sink (rw c.as_str.ensures.value at c.in_ok-push_str.ensures.bytes))

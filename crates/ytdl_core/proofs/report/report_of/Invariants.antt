@@ -1,6 +1,8 @@
-use Rattle.std.proofs.Common.{◌≡◌, ◌++◌, drop}
-use Rattle.ytdl_core.specs.Report.{ends_of}
+use Rattle.std.proofs.Common.{◌≡◌, ◌++◌, drop, map}
+use Rattle.job_plan.specs.Views.{plain_entry}
+use Rattle.ytdl_core.specs.Report.{simulated_end}
 use Rattle.ytdl_core.proofs.report.report_of.Given as goal
 
-abbrev pub invariant-loop-item : goal.invariant-loop-item
-invariant-loop-item l = ends_of 0 l.entries ≡ l.ends.items ++ ends_of l.item (drop l.item l.entries)
+abbrev pub invariant-loop-entry : goal.invariant-loop-entry
+invariant-loop-entry l =
+    map simulated_end (map plain_entry l.entries) ≡ l.ends.items ++ map simulated_end (map plain_entry (drop l.entry-index l.entries))

@@ -1,12 +1,12 @@
 use Rattle.std.proofs.Common.{◌≡◌, ◌≤◌, take}
 use Rattle.std.specs.Prelude.{true}
 use Rattle.ytdl_core.specs.Lines.{Sends}
-use Rattle.ytdl_core.specs.Pieces.{script_of}
+use Rattle.ytdl_core.specs.Chunks.{script_of}
 use Rattle.ytdl_core.proofs.writing.write.Given as goal
 
-abbrev pub invariant-loop-piece : goal.invariant-loop-piece
-invariant-loop-piece g l = record {
-  sends : Sends (script_of (take l.piece-index l.pieces)) (g.O.Sink.written l.fn.out) (g.O.Sink.written l.out)
+abbrev pub invariant-loop-chunk : goal.invariant-loop-chunk
+invariant-loop-chunk g l = record {
+  sends : Sends (script_of (take l.chunk-index l.chunks)) (g.O.Sink.written l.fn.out) (g.O.Sink.written l.out)
       (g.E.Sink.written l.fn.err) (g.E.Sink.written l.err);
   kept_out : g.O.Sink.faults l.out ≡ g.O.Sink.faults l.fn.out;
   kept_err : g.E.Sink.faults l.err ≡ g.E.Sink.faults l.fn.err;

@@ -1,8 +1,0 @@
-use Rattle.std.proofs.Common.{take}
-use Rattle.std.specs.Option.{option_copied}
-use Rattle.fmt_sort.specs.Spec.{wish_of}
-use Rattle.ytdl_core.proofs.PickLemmas.{IsWorstSoFar}
-use Rattle.ytdl_core.proofs.best.worst.Given as goal
-
-abbrev pub invariant-loop-format : goal.invariant-loop-format
-invariant-loop-format l = IsWorstSoFar (wish_of l.sort) l.both (take l.format-index l.formats) (option_copied l.worst)
