@@ -1,40 +1,35 @@
 -- An expression that is cut where its fault stands has no fault before its end.
-use Rattle.std.proofs.Common.{◌≡◌, ℕ, zero, suc, ◌+◌, ◌-◌, ◌<◌, ◌≤◌, Bool, true, false, ◌&&◌, ◌||◌, not, cond, eqb, ltb, leb, List, [], ◌∷◌, ◌++◌, length, take, drop, Option, Some, None, Result, Ok, Err, refl, sym, ap, subst, ◌∙◌, append_assoc, append-nil, arith, inl, inr, ◌⊎◌}
+use Rattle.std.proofs.Common.{◌≡◌, ℕ, ◌+◌, ◌<◌, ◌≤◌, Bool, true, false, ◌&&◌, ◌||◌, not, cond, eqb, leb, List, [], ◌∷◌, ◌++◌, length, take, drop, Option, Some, None, Ok, Err, refl, sym, ap, subst, ◌∙◌, arith, inl, inr, ◌⊎◌}
 use Rattle.tpl_lang.specs.declared.tpl_kind.TplKind.TheVariants as kinds
 use Rattle.tpl_lang.specs.declared.expr.Operand.TheVariants as operands
 use Rattle.tpl_lang.specs.declared.date_format.DatePart.TheVariants as dates
 use Rattle.text_base.specs.Size.{size_of}
 use Rattle.read_base.specs.Reads.{◌>>=◌, is_at, run_at, all_at}
-use Rattle.tpl_lang.specs.declared.tpl_kind.TplKind.{TplKind}
 use Rattle.tpl_lang.specs.declared.expr.Op.{Op}
 use Rattle.tpl_lang.specs.declared.expr.Operand.{Operand}
 use Rattle.tpl_lang.specs.declared.expr.Operation.{Operation}
-use Rattle.tpl_lang.specs.declared.date_format.DatePart.{DatePart}
 use Rattle.tpl_lang.specs.declared.date_format.Directive.{Directive}
 use Rattle.tpl_lang.specs.declared.scan.Class.TheVariants.{DateText}
 use Rattle.tpl_lang.specs.Bytes.{in_class, is_word_byte}
-use Rattle.tpl_lang.specs.Paths.{PathView}
 use Rattle.tpl_lang.specs.Keys.{word_at, path_behind, path_at}
-use Rattle.tpl_lang.specs.ExprReading.{number_length, operand_at, operator_of, is_operator, operation_by, operation_at, directive_by, directive_at, in_date, date_part_at, date_format_at, expr_at, exprs_at, has_decimals, point_length, first_directive}
-use Rattle.tpl_lang.specs.Spelled.{IsOperand, IsOperation, IsDatePart, IsDateFormat, IsExpr, IsExprs, Follows, IsSomeRun, IsPathBehind}
+use Rattle.tpl_lang.specs.ExprReading.{number_length, operand_at, is_operator, operation_by, operation_at, directive_by, directive_at, in_date, date_part_at, date_format_at, expr_at, exprs_at, has_decimals, point_length, first_directive}
+use Rattle.tpl_lang.specs.Spelled.{IsOperation, IsDatePart, IsExpr}
 use Rattle.std.specs.List.{prefix_len}
 use Rattle.text_base.specs.Spelling.{is_digit}
-use Rattle.tpl_lang.specs.Exprs.{ExprView}
 use Rattle.std.specs.Prelude.{◌==◌}
 use Rattle.tpl_lang.specs.declared.expr.Op.TheVariants.{Add, Sub, Mul}
-use Rattle.std.proofs.lemmas.Bool.{eqb-true, eqb-false, ne_eqb, leb-true, le-leb, and_parts, and_from, both_ways, cases_lt}
-use Rattle.std.proofs.lemmas.List.{length-append, length-drop, take-append-le, nil_from_length}
-use Rattle.std.proofs.lemmas.List.Sums.{prefix_len-le-length}
+use Rattle.std.proofs.lemmas.Bool.{ne_eqb, leb-true, le-leb, and_parts, and_from, both_ways, cases_lt}
+use Rattle.std.proofs.lemmas.List.{length-append, length-drop, take-append-le}
 use Rattle.std.specs.List.{prefix_len}
 use Rattle.read_base.specs.Reads.{◌>>=◌, is_at, run_at, all_at}
 use Rattle.read_base.proofs.LocalLemmas.{drop_short}
 use Rattle.tpl_lang.specs.Bytes.{is_word_byte, has_word}
 use Rattle.tpl_lang.specs.ExprReading.{key_goes_on, has_decimals, point_length, number_length}
-use Rattle.tpl_lang.proofs.AgainLemmas.{cond_yes, cond_no}
+use Rattle.tpl_lang.proofs.AgainLemmas.{cond_no}
 use Rattle.tpl_lang.proofs.ExprSpells.{operation_some, operation_spells, date_part_some, date_part_spells, number_short, view_of, expr_spells}
 use Rattle.tpl_lang.proofs.ExprAgain.{date_part_again}
 use Rattle.tpl_lang.proofs.PathOpen.{list_cuts, word_cuts, path_behind_cuts, path_cuts}
-use Rattle.tpl_lang.proofs.OpenLemmas.{Reading, AtEnd, Less, CutsTo, Cuts, ended, past_cuts, pure_cuts, stop_cuts, end_cuts, same_cuts, nil_cuts, drop_cuts, Head, cond_ended, cond_same, cond_cuts, at_head, then_cuts, mark_cuts, run_kept, run_full, cut_run, run_cuts, run_head, some_run_cuts, all_cuts, takes_some, Edge, edge_cond, edge_bind, law_cuts, run_stays, Kept, drop_all_of}
+use Rattle.tpl_lang.proofs.OpenLemmas.{Reading, AtEnd, Less, CutsTo, Cuts, past_cuts, pure_cuts, stop_cuts, same_cuts, drop_cuts, Head, cond_ended, cond_same, cond_cuts, at_head, then_cuts, run_kept, run_full, cut_run, all_cuts, takes_some, Edge, edge_cond, edge_bind, law_cuts, run_stays, Kept, drop_all_of}
 
 -- ---- numbers
 

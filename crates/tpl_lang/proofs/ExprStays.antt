@@ -1,39 +1,32 @@
 -- A settled fault of an expression stays.
-use Rattle.std.proofs.Common.{◌≡◌, ℕ, zero, suc, ◌+◌, ◌-◌, ◌<◌, ◌≤◌, Bool, true, false, ◌&&◌, ◌||◌, not, cond, eqb, ltb, leb, List, [], ◌∷◌, ◌++◌, length, take, drop, Option, Some, None, Result, Ok, Err, refl, sym, ap, subst, ◌∙◌, append_assoc, append-nil, arith, inl, inr, ◌⊎◌}
+use Rattle.std.proofs.Common.{◌≡◌, ℕ, suc, ◌+◌, ◌-◌, ◌<◌, ◌≤◌, Bool, true, false, ◌&&◌, ◌||◌, not, cond, eqb, leb, List, [], ◌∷◌, ◌++◌, length, drop, Option, Some, None, Ok, Err, refl, sym, ap, subst, ◌∙◌, append-nil, arith}
 use Rattle.tpl_lang.specs.declared.tpl_kind.TplKind.TheVariants as kinds
 use Rattle.tpl_lang.specs.declared.expr.Operand.TheVariants as operands
 use Rattle.tpl_lang.specs.declared.date_format.DatePart.TheVariants as dates
 use Rattle.text_base.specs.Size.{size_of}
 use Rattle.read_base.specs.Reads.{◌>>=◌, is_at, run_at, all_at}
-use Rattle.tpl_lang.specs.declared.tpl_kind.TplKind.{TplKind}
 use Rattle.tpl_lang.specs.declared.expr.Op.{Op}
-use Rattle.tpl_lang.specs.declared.expr.Operand.{Operand}
-use Rattle.tpl_lang.specs.declared.expr.Operation.{Operation}
 use Rattle.tpl_lang.specs.declared.date_format.DatePart.{DatePart}
 use Rattle.tpl_lang.specs.declared.date_format.Directive.{Directive}
 use Rattle.tpl_lang.specs.declared.scan.Class.TheVariants.{DateText}
 use Rattle.tpl_lang.specs.Bytes.{in_class, is_word_byte}
-use Rattle.tpl_lang.specs.Paths.{PathView}
 use Rattle.tpl_lang.specs.Keys.{word_at, path_behind, path_at}
-use Rattle.tpl_lang.specs.ExprReading.{number_length, operand_at, operator_of, is_operator, operation_by, operation_at, directive_by, directive_at, in_date, date_part_at, date_format_at, expr_at, exprs_at, has_decimals, point_length, first_directive}
-use Rattle.tpl_lang.specs.Spelled.{IsOperand, IsOperation, IsDatePart, IsDateFormat, IsExpr, IsExprs, Follows, IsSomeRun, IsPathBehind}
+use Rattle.tpl_lang.specs.ExprReading.{number_length, operand_at, is_operator, operation_at, directive_by, in_date, date_part_at, date_format_at, expr_at, exprs_at, has_decimals, point_length, first_directive}
+use Rattle.tpl_lang.specs.Spelled.{IsOperation, IsDatePart, IsExpr}
 use Rattle.std.specs.List.{prefix_len}
 use Rattle.text_base.specs.Spelling.{is_digit}
-use Rattle.tpl_lang.specs.Exprs.{ExprView}
 use Rattle.tpl_lang.specs.declared.expr.Op.TheVariants.{Add, Sub, Mul}
-use Rattle.tpl_lang.specs.Bytes.{is_word_byte, has_word}
+use Rattle.tpl_lang.specs.Bytes.{is_word_byte}
 use Rattle.tpl_lang.specs.ExprReading.{key_goes_on, has_decimals, point_length, number_length}
-use Rattle.tpl_lang.proofs.ExprSpells.{operation_some, operation_spells, date_part_some, date_part_spells, number_short, view_of, expr_spells}
-use Rattle.tpl_lang.proofs.ExprAgain.{date_part_again}
+use Rattle.tpl_lang.proofs.ExprSpells.{operation_some, operation_spells, date_part_some, date_part_spells, view_of, expr_spells}
 use Rattle.std.specs.Prelude.{◌==◌}
-use Rattle.std.proofs.lemmas.Bool.{or_from, both_ways}
 use Rattle.std.proofs.lemmas.List.{length-drop, length-append}
 use Rattle.text_base.proofs.Logic.{same_head}
 use Rattle.tpl_lang.specs.ExprReading.{directive_of}
-use Rattle.read_base.proofs.LocalLemmas.{pure_local, stop_local, cond_local, drop_local, bind_local, then_local, same_local, mark_local, run_local, all_local, Near, is_at_near, head_near, and_near, run_same, drop_short}
-use Rattle.read_base.specs.Laws.{Twin, Shrinks, Within, Moved, Local, head_is}
+use Rattle.read_base.proofs.LocalLemmas.{pure_local, stop_local, cond_local, drop_local, then_local, same_local, run_local, all_local, is_at_near, head_near, and_near, drop_short}
+use Rattle.read_base.specs.Laws.{Shrinks, Within, Moved}
 use Rattle.tpl_lang.specs.Places.{settling}
-use Rattle.tpl_lang.proofs.StayLemmas.{Stays, Near_here, Twins, free_word, free_minus, free_point, some_length, digits_short, digits_same, digits_near, behind_near, not_near, or_near, word_near, made_of, cut_moves, cut_shrinks, total_local, end_local, list_local, Turned, Errs, law_local, run_turned}
+use Rattle.tpl_lang.proofs.StayLemmas.{Stays, Near_here, Twins, free_word, free_point, digits_short, digits_same, digits_near, behind_near, not_near, cut_moves, cut_shrinks, list_local, Turned, run_turned}
 use Rattle.tpl_lang.proofs.OpenLemmas.{Reading, takes_some}
 use Rattle.tpl_lang.proofs.ExprOpen.{number_of, pointed, point_of, path_operand, number_cut, operation_of, operation_same}
 use Rattle.tpl_lang.proofs.PathStays.{word_local, path_behind_local, path_local}

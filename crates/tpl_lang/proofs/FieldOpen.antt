@@ -1,10 +1,9 @@
 -- A field that is cut where its fault stands has no fault before its end.
-use Rattle.std.proofs.Common.{◌≡◌, ℕ, zero, suc, ◌+◌, ◌-◌, ◌<◌, ◌≤◌, Bool, true, false, ◌&&◌, ◌||◌, not, cond, eqb, ltb, leb, List, [], ◌∷◌, ◌++◌, length, take, drop, Option, Some, None, Result, Ok, Err, refl, sym, ap, subst, ◌∙◌, append_assoc, append-nil, arith, inl, inr, ◌⊎◌}
+use Rattle.std.proofs.Common.{◌≡◌, ℕ, suc, ◌+◌, ◌<◌, ◌≤◌, Bool, true, false, ◌&&◌, cond, eqb, ltb, List, [], ◌∷◌, ◌++◌, length, take, drop, Option, Some, None, Result, Ok, Err, refl, sym, ap, subst, ◌∙◌, append_assoc, arith, inl, inr, ◌⊎◌}
 use Rattle.tpl_lang.specs.declared.replacement.ReplacementPart.TheVariants as pieces
 use Rattle.std.specs.Prelude.{◌==◌, is_some, codes}
 use Rattle.text_base.specs.Spelling.{is_digit}
 use Rattle.text_base.specs.Value.{digits_value}
-use Rattle.read_base.specs.Spelled.{AreAll}
 use Rattle.tpl_lang.specs.declared.tpl_kind.TplKind.{TplKind}
 use Rattle.tpl_lang.specs.declared.tpl_kind.TplKind.TheVariants.{Syntax, Brace, TypeLetter}
 use Rattle.tpl_lang.specs.declared.scan.Class.TheVariants.{Flag, Default, ReplacementText}
@@ -16,25 +15,22 @@ use Rattle.tpl_lang.specs.Bytes.{in_class, is_letter}
 use Rattle.tpl_lang.specs.Exprs.{ExprView}
 use Rattle.tpl_lang.specs.Fields.{FieldView}
 use Rattle.tpl_lang.specs.ExprReading.{exprs_at}
-use Rattle.tpl_lang.specs.FieldReading.{refused_brace, align_of, aligned_at, value_at, in_replacement, replacement_part_at, replacement_at, default_of, short_at, precision_at, kind_of, is_length, first_kind, behind_length, type_by, type_at, conv_at, is_bare, field_at, flags_of}
-use Rattle.tpl_lang.specs.Spelled.{IsEnd, Follows, Marked, IsReplacementPart, IsReplacement, IsDefault, IsShort, IsPrecision, IsType, IsConv, IsField, IsExprs}
-use Rattle.read_base.specs.Laws.{head_is}
+use Rattle.tpl_lang.specs.FieldReading.{refused_brace, align_of, aligned_at, value_at, in_replacement, replacement_part_at, replacement_at, default_of, short_at, precision_at, is_length, first_kind, type_by, type_at, conv_at, is_bare, field_at}
+use Rattle.tpl_lang.specs.Spelled.{IsReplacementPart, IsType, IsConv}
 use Rattle.tpl_lang.specs.declared.replacement.Align.TheVariants.{Left}
 use Rattle.std.specs.List.{prefix_len}
-use Rattle.std.proofs.lemmas.Bool.{eqb-true, ne_eqb, le-ltb, ltb-true, ltb-false, and_right, both_ways, cases_lt}
+use Rattle.std.proofs.lemmas.Bool.{eqb-true, ne_eqb, le-ltb, ltb-true, cases_lt}
 use Rattle.std.proofs.lemmas.List.{length-append, length-drop, take-append-le, nil_from_length}
 use Rattle.std.proofs.lemmas.List.Sums.{prefix_len-le-length}
 use Rattle.read_base.specs.Reads.{◌>>=◌, is_at, mark_at, run_at, all_at}
 use Rattle.read_base.proofs.LocalLemmas.{drop_short}
-use Rattle.read_base.proofs.StepLemmas.{bind_ok}
 use Rattle.tpl_lang.specs.Bytes.{is_word_byte}
 use Rattle.tpl_lang.specs.FieldReading.{value_at, begins_length}
 use Rattle.tpl_lang.proofs.SpellsLemmas.{TakesSo}
-use Rattle.tpl_lang.proofs.AgainLemmas.{step_on}
 use Rattle.tpl_lang.proofs.FieldSpells.{replacement_part_some, replacement_part_spells, type_spells, conv_of, field_of, IsFieldBy, field_by_spells}
 use Rattle.tpl_lang.proofs.FieldAgain.{replacement_part_again, type_again}
 use Rattle.tpl_lang.proofs.ExprOpen.{exprs_cuts}
-use Rattle.tpl_lang.proofs.OpenLemmas.{Reading, AtEnd, Less, CutsTo, Cuts, ended, past_cuts, pure_cuts, stop_cuts, end_cuts, same_cuts, nil_cuts, drop_cuts, Head, cond_ended, cond_same, cond_cuts, at_head, then_cuts, mark_cuts, run_kept, run_full, cut_run, run_cuts, run_head, some_run_cuts, all_cuts, takes_some, Edge, edge_cond, edge_bind, law_cuts, run_stays, Kept, drop_all_of}
+use Rattle.tpl_lang.proofs.OpenLemmas.{Reading, AtEnd, Less, CutsTo, Cuts, pure_cuts, stop_cuts, end_cuts, same_cuts, drop_cuts, Head, cond_cuts, at_head, then_cuts, mark_cuts, run_kept, run_full, cut_run, run_cuts, run_head, all_cuts, takes_some, Edge, edge_cond, edge_bind, law_cuts, run_stays, Kept, drop_all_of}
 
 abbrev pub given : {A : Type 0} → A × List ℕ → Reading A
 given p = Ok p

@@ -1,42 +1,39 @@
 -- A settled fault of a field stays.
-use Rattle.std.proofs.Common.{◌≡◌, ℕ, zero, suc, ◌+◌, ◌-◌, ◌<◌, ◌≤◌, Bool, true, false, ◌&&◌, ◌||◌, not, cond, eqb, ltb, leb, List, [], ◌∷◌, ◌++◌, length, take, drop, Option, Some, None, Result, Ok, Err, refl, sym, ap, subst, ◌∙◌, append_assoc, append-nil, arith, inl, inr, ◌⊎◌}
+use Rattle.std.proofs.Common.{◌≡◌, ℕ, suc, ◌+◌, ◌-◌, ◌≤◌, Bool, true, false, ◌&&◌, cond, eqb, ltb, List, [], ◌∷◌, ◌++◌, length, take, drop, Option, Some, None, Result, Ok, Err, refl, sym, ap, subst, ◌∙◌, append_assoc, arith, inl, inr, ◌⊎◌}
 use Rattle.tpl_lang.specs.declared.replacement.ReplacementPart.TheVariants as pieces
 use Rattle.text_base.specs.Spelling.{is_digit}
 use Rattle.text_base.specs.Value.{digits_value}
-use Rattle.read_base.specs.Spelled.{AreAll}
 use Rattle.tpl_lang.specs.declared.tpl_kind.TplKind.{TplKind}
 use Rattle.tpl_lang.specs.declared.tpl_kind.TplKind.TheVariants.{Syntax, Brace, TypeLetter}
 use Rattle.tpl_lang.specs.declared.scan.Class.TheVariants.{Flag, Default, ReplacementText}
 use Rattle.tpl_lang.specs.declared.replacement.Align.{Align}
 use Rattle.tpl_lang.specs.declared.replacement.ReplacementPart.{ReplacementPart}
-use Rattle.tpl_lang.specs.declared.conv.Conv.{Conv}
 use Rattle.tpl_lang.specs.declared.conv.Kind.{Kind}
 use Rattle.tpl_lang.specs.Bytes.{in_class, is_letter}
 use Rattle.tpl_lang.specs.Exprs.{ExprView}
 use Rattle.tpl_lang.specs.Fields.{FieldView}
 use Rattle.tpl_lang.specs.ExprReading.{exprs_at}
-use Rattle.tpl_lang.specs.FieldReading.{refused_brace, align_of, aligned_at, value_at, in_replacement, replacement_part_at, replacement_at, default_of, short_at, precision_at, kind_of, is_length, first_kind, behind_length, type_by, type_at, conv_at, is_bare, field_at, flags_of}
-use Rattle.tpl_lang.specs.Spelled.{IsEnd, Follows, Marked, IsReplacementPart, IsReplacement, IsDefault, IsShort, IsPrecision, IsType, IsConv, IsField, IsExprs}
+use Rattle.tpl_lang.specs.FieldReading.{refused_brace, align_of, aligned_at, value_at, in_replacement, replacement_part_at, replacement_at, default_of, short_at, precision_at, kind_of, first_kind, type_by, type_at, conv_at, is_bare, field_at}
+use Rattle.tpl_lang.specs.Spelled.{IsReplacementPart}
 use Rattle.tpl_lang.specs.declared.replacement.Align.TheVariants.{Left}
 use Rattle.std.specs.List.{prefix_len}
 use Rattle.read_base.specs.Reads.{◌>>=◌, is_at, mark_at, run_at, all_at}
-use Rattle.tpl_lang.specs.Bytes.{is_word_byte}
 use Rattle.tpl_lang.specs.FieldReading.{value_at, begins_length}
-use Rattle.tpl_lang.proofs.FieldSpells.{replacement_part_some, replacement_part_spells, type_spells, conv_of, field_of, IsFieldBy, field_by_spells}
-use Rattle.tpl_lang.proofs.FieldAgain.{replacement_part_again, type_again}
-use Rattle.std.specs.Prelude.{◌==◌, codes, is_some}
+use Rattle.tpl_lang.proofs.FieldSpells.{replacement_part_some, replacement_part_spells, conv_of, field_of, IsFieldBy, field_by_spells}
+use Rattle.tpl_lang.proofs.FieldAgain.{replacement_part_again}
+use Rattle.std.specs.Prelude.{codes, is_some}
 use Rattle.std.proofs.lemmas.Bool.{both_ways, ne_eqb}
-use Rattle.std.proofs.lemmas.List.{length-append, take-append-drop}
+use Rattle.std.proofs.lemmas.List.{length-append}
 use Rattle.text_base.proofs.Logic.{cond_through}
 use Rattle.read_base.proofs.StepLemmas.{chosen}
-use Rattle.read_base.proofs.LocalLemmas.{pure_local, stop_local, cond_local, drop_local, bind_local, then_local, same_local, mark_local, run_local, all_local, Near, is_at_near, head_near, and_near, run_same, drop_short}
-use Rattle.read_base.specs.Laws.{Twin, Shrinks, Within, Moved, Local, head_is}
+use Rattle.read_base.proofs.LocalLemmas.{pure_local, stop_local, cond_local, drop_local, then_local, same_local, mark_local, run_local, all_local, is_at_near, head_near, and_near}
+use Rattle.read_base.specs.Laws.{Shrinks, Within, Moved}
 use Rattle.tpl_lang.specs.Places.{settling}
-use Rattle.tpl_lang.proofs.StayLemmas.{Stays, Near_here, Twins, free_word, free_minus, free_point, some_length, digits_short, digits_same, digits_near, behind_near, not_near, or_near, word_near, made_of, cut_moves, cut_shrinks, total_local, end_local, list_local, Turned, Errs, law_local, run_turned}
+use Rattle.tpl_lang.proofs.StayLemmas.{Stays, Near_here, Twins, some_length, digits_near, total_local, end_local, Turned, Errs, law_local, run_turned}
 use Rattle.tpl_lang.proofs.SpellsLemmas.{TakesSo}
 use Rattle.tpl_lang.proofs.AgainLemmas.{third_of_three}
 use Rattle.tpl_lang.proofs.OpenLemmas.{Reading, Edge, Head, parted, takes_some, cut_run}
-use Rattle.tpl_lang.proofs.FieldOpen.{given, replacement_part_edge, text_of, default_run, default_same, precise, closed, field_with, Closes, field_closes, closes_with, bare_front}
+use Rattle.tpl_lang.proofs.FieldOpen.{given, replacement_part_edge, text_of, default_run, default_same, precise, closed, field_with, field_closes, closes_with, bare_front}
 use Rattle.tpl_lang.proofs.ExprStays.{exprs_local}
 
 -- ---- replacements

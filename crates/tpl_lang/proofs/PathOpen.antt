@@ -1,26 +1,25 @@
 -- A path that is cut where its fault stands has no fault before its end.
-use Rattle.std.proofs.Common.{◌≡◌, ℕ, zero, suc, ◌+◌, ◌-◌, ◌<◌, ◌≤◌, Bool, true, false, ◌&&◌, ◌||◌, not, cond, eqb, ltb, leb, List, [], ◌∷◌, ◌++◌, length, take, drop, Option, Some, None, Result, Ok, Err, refl, sym, ap, subst, ◌∙◌, append-nil, arith, inl, inr, ◌⊎◌}
+use Rattle.std.proofs.Common.{◌≡◌, ℕ, suc, ◌+◌, ◌<◌, ◌≤◌, Bool, true, false, ◌&&◌, ◌||◌, not, cond, eqb, ltb, leb, List, [], ◌∷◌, ◌++◌, length, take, drop, Option, Some, None, Ok, Err, refl, sym, ap, subst, ◌∙◌, arith, inl, inr, ◌⊎◌}
 use Rattle.std.specs.Prelude.{◌==◌, ℤ}
 use Rattle.std.specs.List.{prefix_len}
-use Rattle.std.proofs.lemmas.Bool.{eqb-true, eqb-false, ne_eqb, ltb-true, ltb-false, le-ltb, leb-true, le-leb, and_parts, and_from, both_ways, cases_lt, not-true}
-use Rattle.std.proofs.lemmas.List.{length-append, length-drop, take-append-le, drop-drop, nil_from_length}
+use Rattle.std.proofs.lemmas.Bool.{eqb-true, ne_eqb, ltb-true, le-ltb, leb-true, le-leb, and_parts, and_from, both_ways, cases_lt, not-true}
+use Rattle.std.proofs.lemmas.List.{length-append, length-drop, take-append-le, nil_from_length}
 use Rattle.std.proofs.lemmas.List.Sums.{prefix_len-le-length}
 use Rattle.text_base.specs.Spelling.{is_digit}
-use Rattle.read_base.specs.Reads.{◌>>=◌, Or, is_at, mark_at, run_at, all_at}
+use Rattle.read_base.specs.Reads.{◌>>=◌, Or, is_at, mark_at, all_at}
 use Rattle.read_base.proofs.LocalLemmas.{drop_short}
 use Rattle.tpl_lang.specs.declared.tpl_kind.TplKind.{TplKind}
 use Rattle.tpl_lang.specs.declared.tpl_kind.TplKind.TheVariants.{Syntax, Step}
 use Rattle.tpl_lang.specs.declared.key.Key.{Key}
 use Rattle.tpl_lang.specs.declared.key.Key.TheVariants as keys
 use Rattle.tpl_lang.specs.Bytes.{is_word_byte, has_word}
-use Rattle.tpl_lang.specs.Ints.{begins_int, minus_length, int_value, int_length, int_at}
-use Rattle.tpl_lang.specs.Paths.{PathView}
+use Rattle.tpl_lang.specs.Ints.{begins_int, int_value, int_length, int_at}
 use Rattle.tpl_lang.specs.Keys.{word_at, braces_at, has_bound, bound_at, is_zero, step_at, last_at, slice_behind, int_key_at, key_at, path_behind, path_at}
 use Rattle.tpl_lang.specs.Spelled.{IsSomeRun, IsKey, Marked}
 use Rattle.tpl_lang.proofs.AgainLemmas.{last_of_four, step_on, cond_no}
 use Rattle.tpl_lang.proofs.SpellsLemmas.{marked_some, marked_spells}
 use Rattle.tpl_lang.proofs.PathSpells.{word_spells, key_spells}
-use Rattle.tpl_lang.proofs.OpenLemmas.{Reading, AtEnd, Less, CutsTo, Cuts, ended, before_cut, past_cut, Past, past_cuts, pure_cuts, stop_cuts, same_cuts, nil_cuts, less_more, less_past, drop_cuts, Head, cond_ended, cond_same, cond_cuts, at_head, then_cuts, mark_cuts, run_kept, run_full, cut_run, run_cuts, some_run_cuts, all_cuts, takes_some, drop_all_of}
+use Rattle.tpl_lang.proofs.OpenLemmas.{Reading, AtEnd, Less, CutsTo, Cuts, ended, Past, past_cuts, pure_cuts, same_cuts, nil_cuts, drop_cuts, Head, cond_ended, cond_cuts, at_head, then_cuts, mark_cuts, run_kept, run_full, cut_run, run_cuts, some_run_cuts, all_cuts, takes_some, drop_all_of}
 
 -- all behind a mark
 pub list_cuts : {A : Type 0} (mark : ℕ) (item : List ℕ → Reading A) (P : List ℕ → List ℕ → A → Type 0) → ((t : List ℕ) (p : A × List ℕ) → item t ≡ Ok p → (s : List ℕ) × P s p.1 p.0 × (t ≡ s ++ p.1)) → Cuts item → Cuts (all_at (is_at mark) (λ t. item (drop 1 t)))

@@ -1,28 +1,25 @@
 -- A settled fault of a path stays.
-use Rattle.std.proofs.Common.{◌≡◌, ℕ, zero, suc, ◌+◌, ◌-◌, ◌<◌, ◌≤◌, Bool, true, false, ◌&&◌, ◌||◌, not, cond, eqb, ltb, leb, List, [], ◌∷◌, ◌++◌, length, take, drop, Option, Some, None, Result, Ok, Err, refl, sym, ap, subst, ◌∙◌, append_assoc, append-nil, arith, inl, inr, ◌⊎◌}
+use Rattle.std.proofs.Common.{◌≡◌, ℕ, ◌≤◌, Bool, true, false, ◌&&◌, ◌||◌, not, cond, eqb, ltb, leb, List, [], ◌∷◌, ◌++◌, length, drop, Option, Some, None, Ok, Err, refl, sym, ap, ◌∙◌, arith}
 use Rattle.std.specs.Prelude.{◌==◌, ℤ}
 use Rattle.std.specs.List.{prefix_len}
 use Rattle.text_base.specs.Spelling.{is_digit}
-use Rattle.read_base.specs.Reads.{◌>>=◌, Or, is_at, mark_at, run_at, all_at}
-use Rattle.tpl_lang.specs.declared.tpl_kind.TplKind.{TplKind}
+use Rattle.read_base.specs.Reads.{◌>>=◌, is_at, mark_at, all_at}
 use Rattle.tpl_lang.specs.declared.tpl_kind.TplKind.TheVariants.{Syntax, Step}
-use Rattle.tpl_lang.specs.declared.key.Key.{Key}
 use Rattle.tpl_lang.specs.declared.key.Key.TheVariants as keys
 use Rattle.tpl_lang.specs.Bytes.{is_word_byte, has_word}
-use Rattle.tpl_lang.specs.Ints.{begins_int, minus_length, int_value, int_length, int_at}
-use Rattle.tpl_lang.specs.Paths.{PathView}
+use Rattle.tpl_lang.specs.Ints.{begins_int, int_value, int_at}
 use Rattle.tpl_lang.specs.Keys.{word_at, braces_at, has_bound, bound_at, is_zero, step_at, last_at, slice_behind, int_key_at, key_at, path_behind, path_at}
-use Rattle.tpl_lang.specs.Spelled.{IsSomeRun, IsKey, Marked}
+use Rattle.tpl_lang.specs.Spelled.{IsSomeRun, IsKey}
 use Rattle.tpl_lang.proofs.PathSpells.{word_spells, key_spells}
 use Rattle.std.proofs.lemmas.Bool.{or_from, both_ways}
 use Rattle.std.specs.Prelude.{◌==◌}
 use Rattle.read_base.specs.Reads.{◌>>=◌, is_at, mark_at, all_at}
-use Rattle.read_base.proofs.LocalLemmas.{pure_local, stop_local, cond_local, drop_local, bind_local, then_local, same_local, mark_local, run_local, all_local, Near, is_at_near, head_near, and_near, run_same, drop_short}
-use Rattle.read_base.specs.Laws.{Twin, Shrinks, Within, Moved, Local, head_is}
+use Rattle.read_base.proofs.LocalLemmas.{pure_local, stop_local, cond_local, drop_local, bind_local, then_local, same_local, mark_local, run_local, is_at_near, and_near}
+use Rattle.read_base.specs.Laws.{Shrinks, Within, Moved}
 use Rattle.tpl_lang.specs.Places.{settling}
 use Rattle.tpl_lang.proofs.OpenLemmas.{Reading, cut_run}
 use Rattle.tpl_lang.proofs.PathOpen.{digits_at, minus_then, int_by_digits, int_same, some_int, no_int, int_behind, word_key}
-use Rattle.tpl_lang.proofs.StayLemmas.{Stays, Near_here, Twins, free_word, free_minus, some_length, digits_near, behind_near, not_near, or_near, word_near, made_of, total_local, list_local}
+use Rattle.tpl_lang.proofs.StayLemmas.{Stays, Near_here, free_word, free_minus, some_length, digits_near, behind_near, not_near, or_near, word_near, total_local, list_local}
 
 -- ---- ints
 

@@ -1,10 +1,9 @@
 -- A template that is cut where its fault stands has no fault before its end.
-use Rattle.std.proofs.Common.{◌≡◌, ℕ, zero, suc, ◌+◌, ◌-◌, ◌<◌, ◌≤◌, Bool, true, false, ◌&&◌, ◌||◌, not, cond, eqb, ltb, leb, List, [], ◌∷◌, ◌++◌, length, take, drop, Option, Some, None, Result, Ok, Err, refl, sym, ap, subst, ◌∙◌, append_assoc, append-nil, arith, inl, inr, ◌⊎◌}
-use Rattle.std.specs.Prelude.{◌==◌, codes}
+use Rattle.std.proofs.Common.{◌≡◌, ℕ, ◌-◌, ◌≤◌, cond, List, ◌++◌, length, take, drop, Option, Some, Result, Ok, Err, refl, sym, ap, subst, ◌∙◌, arith, inl, inr}
+use Rattle.std.specs.Prelude.{codes}
 use Rattle.std.specs.List.{prefix_len}
 use Rattle.std.proofs.lemmas.List.{length-append}
 use Rattle.read_base.specs.Reads.{◌>>=◌, Or, placed, is_at, all_at}
-use Rattle.read_base.proofs.StepLemmas.{bind_err}
 use Rattle.read_base.proofs.OpensLemmas.{placed_err}
 use Rattle.tpl_lang.specs.declared.tpl_kind.TplKind.{TplKind}
 use Rattle.tpl_lang.specs.declared.tpl_kind.TplKind.TheVariants as kinds
@@ -17,7 +16,7 @@ use Rattle.tpl_lang.specs.Spelled.{IsPart}
 use Rattle.tpl_lang.specs.Places.{place_of, IsOpen}
 use Rattle.tpl_lang.proofs.ReadingSpells.{part_some, part_spells}
 use Rattle.tpl_lang.proofs.FieldOpen.{field_cuts}
-use Rattle.tpl_lang.proofs.OpenLemmas.{Reading, AtEnd, Less, CutsTo, Cuts, ended, past_cuts, pure_cuts, stop_cuts, end_cuts, same_cuts, nil_cuts, drop_cuts, Head, cond_ended, cond_same, cond_cuts, at_head, then_cuts, mark_cuts, run_kept, run_full, cut_run, run_cuts, run_head, some_run_cuts, all_cuts, takes_some, Edge, edge_cond, edge_bind, law_cuts, run_stays, Kept}
+use Rattle.tpl_lang.proofs.OpenLemmas.{Reading, AtEnd, Less, CutsTo, Cuts, pure_cuts, drop_cuts, Head, cond_cuts, at_head, then_cuts, cut_run, run_cuts, all_cuts, takes_some}
 
 percent_cuts : Cuts percent_at
 unfolding percent_at

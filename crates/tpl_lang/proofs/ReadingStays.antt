@@ -1,26 +1,23 @@
 -- A settled fault of a template stays.
-use Rattle.std.proofs.Common.{◌≡◌, ℕ, zero, suc, ◌+◌, ◌-◌, ◌<◌, ◌≤◌, Bool, true, false, ◌&&◌, ◌||◌, not, cond, eqb, ltb, leb, List, [], ◌∷◌, ◌++◌, length, take, drop, Option, Some, None, Result, Ok, Err, refl, sym, ap, subst, ◌∙◌, append_assoc, append-nil, arith, inl, inr, ◌⊎◌}
+use Rattle.std.proofs.Common.{◌≡◌, ℕ, ◌+◌, ◌-◌, true, false, cond, List, [], ◌∷◌, ◌++◌, length, take, drop, Ok, Err, refl, sym, ap, subst, ◌∙◌, arith}
 use Rattle.std.specs.List.{prefix_len}
-use Rattle.read_base.specs.Reads.{◌>>=◌, Or, placed, is_at, all_at}
-use Rattle.read_base.proofs.OpensLemmas.{placed_err}
+use Rattle.read_base.specs.Reads.{◌>>=◌, is_at, all_at}
 use Rattle.tpl_lang.specs.declared.tpl_kind.TplKind.{TplKind}
-use Rattle.tpl_lang.specs.declared.tpl_kind.TplKind.TheVariants as kinds
-use Rattle.tpl_lang.specs.declared.fault.TplFault.{TplFault}
 use Rattle.tpl_lang.specs.declared.template.Part.{Part}
 use Rattle.tpl_lang.specs.declared.template.Part.TheVariants as parts
 use Rattle.tpl_lang.specs.FieldReading.{field_at}
-use Rattle.tpl_lang.specs.Reading.{is_plain, percent_at, part_at, is_left, whole_at, fault_at, template_of}
+use Rattle.tpl_lang.specs.Reading.{is_plain, percent_at, part_at, is_left, whole_at}
 use Rattle.tpl_lang.specs.Spelled.{IsPart}
 use Rattle.tpl_lang.proofs.ReadingSpells.{part_some, part_spells}
-use Rattle.std.specs.Prelude.{◌==◌, codes}
+use Rattle.std.specs.Prelude.{codes}
 use Rattle.std.specs.List.{prefix_len}
-use Rattle.read_base.specs.Reads.{◌>>=◌, Or, is_at, all_at}
-use Rattle.read_base.proofs.LocalLemmas.{pure_local, stop_local, cond_local, drop_local, bind_local, then_local, same_local, mark_local, run_local, all_local, Near, is_at_near, head_near, and_near, run_same, drop_short}
-use Rattle.read_base.specs.Laws.{Twin, Shrinks, Within, Moved, Local, head_is}
+use Rattle.read_base.specs.Reads.{◌>>=◌, is_at, all_at}
+use Rattle.read_base.proofs.LocalLemmas.{pure_local, cond_local, drop_local, then_local, all_local, is_at_near, head_near}
+use Rattle.read_base.specs.Laws.{Within, Moved}
 use Rattle.tpl_lang.specs.Places.{settling}
-use Rattle.tpl_lang.proofs.StayLemmas.{Stays, Near_here, Twins, free_word, free_minus, free_point, some_length, digits_short, digits_same, digits_near, behind_near, not_near, or_near, word_near, made_of, cut_moves, cut_shrinks, total_local, end_local, list_local, Turned, Errs, law_local, run_turned}
+use Rattle.tpl_lang.proofs.StayLemmas.{Stays, Near_here, Twins, total_local}
 use Rattle.tpl_lang.specs.Places.{is_free, is_settled}
-use Rattle.tpl_lang.proofs.OpenLemmas.{Reading, takes_some, cut_run}
+use Rattle.tpl_lang.proofs.OpenLemmas.{Reading, takes_some}
 use Rattle.tpl_lang.proofs.ReadingOpen.{whole_of, err_of}
 use Rattle.tpl_lang.proofs.FieldStays.{field_local}
 

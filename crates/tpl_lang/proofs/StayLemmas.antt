@@ -1,13 +1,13 @@
 -- A settled fault stays, whatever stands behind the bytes that settle it: what templates add to the laws of readers.
-use Rattle.std.proofs.Common.{◌≡◌, ℕ, zero, suc, ◌+◌, ◌-◌, ◌<◌, ◌≤◌, Bool, true, false, ◌&&◌, ◌||◌, not, cond, eqb, ltb, leb, List, [], ◌∷◌, ◌++◌, length, take, drop, Option, Some, None, Result, Ok, Err, refl, sym, ap, subst, ◌∙◌, append_assoc, append-nil, arith, inl, inr, ◌⊎◌}
+use Rattle.std.proofs.Common.{◌≡◌, ℕ, suc, ◌+◌, ◌-◌, ◌≤◌, Bool, true, false, ◌||◌, not, cond, List, [], ◌∷◌, ◌++◌, length, take, drop, Ok, Err, refl, sym, ap, subst, ◌∙◌, append_assoc, arith}
 use Rattle.std.specs.Prelude.{◌==◌}
 use Rattle.std.specs.List.{prefix_len}
-use Rattle.std.proofs.lemmas.Bool.{or_parts, or_from, not-true}
+use Rattle.std.proofs.lemmas.Bool.{or_parts, not-true}
 use Rattle.std.proofs.lemmas.List.{length-append, length-drop, take-append-le, take-append-drop}
 use Rattle.std.proofs.lemmas.List.Sums.{prefix_len-le-length}
 use Rattle.text_base.specs.Spelling.{is_digit}
-use Rattle.read_base.specs.Reads.{◌>>=◌, is_at, all_at}
-use Rattle.read_base.proofs.LocalLemmas.{pure_local, stop_local, cond_local, drop_local, bind_local, then_local, same_local, mark_local, run_local, all_local, Near, is_at_near, head_near, and_near, run_same, drop_short}
+use Rattle.read_base.specs.Reads.{is_at, all_at}
+use Rattle.read_base.proofs.LocalLemmas.{drop_local, all_local, Near, is_at_near, head_near, run_same, drop_short}
 use Rattle.read_base.specs.Laws.{Twin, Shrinks, Within, Moved, Local, head_is}
 use Rattle.tpl_lang.specs.declared.tpl_kind.TplKind.{TplKind}
 use Rattle.tpl_lang.specs.Bytes.{is_letter, is_word_byte, has_word}

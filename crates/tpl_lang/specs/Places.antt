@@ -1,5 +1,5 @@
 -- Where the fault of a template stands, and what may stand before it.
-use Rattle.std.specs.Prelude.{◌≡◌, ℕ, List, length, Bool, true, false, ◌||◌, not, ◌==◌, Option, Some, None, Result, Ok, Err, ◌⊎◌}
+use Rattle.std.specs.Prelude.{◌≡◌, ℕ, List, length, Bool, true, false, ◌||◌, not, ◌==◌, Option, Some, None, Ok, Err, ◌⊎◌}
 use Rattle.read_base.specs.Laws.{Settling}
 use Rattle.tpl_lang.specs.declared.tpl_kind.TplKind.{TplKind}
 use Rattle.tpl_lang.specs.declared.tpl_kind.TplKind.TheVariants as kinds
