@@ -68,7 +68,7 @@ line_kept piece kept = by (leads piece.url) refl
     by false e = refl
 
 -- no line of a component has an end of a line inside
-lines_kept : (pieces : List Piece) → All (λ piece. IsKept piece.url) pieces → are_lines (map line_of pieces) ≡ true
+pub lines_kept : (pieces : List Piece) → All (λ piece. IsKept piece.url) pieces → are_lines (map line_of pieces) ≡ true
 lines_kept [] all = refl
 lines_kept (piece ∷ pieces) all =
     and_from (is_line (line_of piece)) (are_lines (map line_of pieces)) (line_kept piece (All-head (λ piece. IsKept piece.url) piece pieces all))

@@ -9,7 +9,7 @@ mod record;
 mod urls;
 
 pub use component::Component;
-pub use laws::one_plan;
+pub use laws::{one_plan, urls_make_lines};
 pub use parts::{fragments_of, parts_of};
 pub use pieces::{can_be_fetched, pieces_of};
 pub use record::plan_text;
