@@ -4,7 +4,7 @@ use std::alloc::Global;
 use std::process::Abort;
 use std::test::Fail;
 use text_base::{OutOfMemory, Text};
-use tpl_lang::TplFault;
+use tpl_lang::{Part, Template, TplFault};
 use word_list::{OptionFault, Options, WordsFault, read_words};
 
 const INFO: &str = "--load-info-json";
@@ -288,6 +288,30 @@ fn audio_alone_is_chosen_where_nothing_else_is_kept(rt: HostRuntime) -> Result<(
         let plan = asked(rt.alloc(), words)?.plan;
         assert_eq!(rt; wants_audio(&plan.sel), *audio, "{words:?}");
         assert_eq!(rt; plan.exec.len(), *commands, "{words:?}");
+    }
+    Ok(())
+}
+
+/// Whether the first of commands ends with a field.
+fn ends_with_a_field(commands: &[Template]) -> bool {
+    match commands.first() {
+        Some(command) => matches!(command.parts().last(), Some(Part::Field(_))),
+        None => false,
+    }
+}
+
+/// Words, and whether their command ends with a field: one without a field gets that of the file's path.
+const COMMANDS: [(&[&str], bool); 3] = [
+    (&[INFO, "i", "--exec", "echo"], true),
+    (&[INFO, "i", "--exec", "%%"], true),
+    (&[INFO, "i", "--exec", "%(id)s ls"], false),
+];
+
+#[test]
+fn a_command_without_a_field_gets_the_path(rt: HostRuntime) -> Result<(), Fail> {
+    for (words, ends) in &COMMANDS {
+        let plan = asked(rt.alloc(), words)?.plan;
+        assert_eq!(rt; ends_with_a_field(&plan.exec), *ends, "{words:?}");
     }
     Ok(())
 }

@@ -17,7 +17,7 @@ use Rattle.word_list.specs.Groups.{naming_given, source_given, choosing_given, s
 use Rattle.word_list.specs.Faults.{result_map}
 use Rattle.word_list.specs.Options.{Options, ended_with, options_of, selftest_options}
 use Rattle.word_list.specs.Settings.{Settings, no_settings, turned_on, used, after}
-use Rattle.word_list.specs.Uses.{Use, turned, given, Reading, reading}
+use Rattle.word_list.specs.Uses.{Use, turned, given, reading}
 use Rattle.word_list.specs.Values.{is_number, number_of, template_by}
 use Rattle.word_list.specs.Words.{words_of, unless_fault}
 use Rattle.word_list.proofs.SortLemmas.{mapped, unplaced, goes_on}

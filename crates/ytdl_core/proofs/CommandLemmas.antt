@@ -1,6 +1,6 @@
 -- What words say of the first entry's number.
 use Rattle.std.proofs.Common.{◌≡◌, ℕ, ◌≤◌, List, length, Bool, true, false, sym, ap, subst}
-use Rattle.std.specs.Prelude.{Option, Some, None, if◌then◌else◌, Result, Ok, Err}
+use Rattle.std.specs.Prelude.{Option, Some, None, if◌then◌else◌, Ok}
 use Rattle.std.specs.Option.{option_map, ok_or}
 use Rattle.word_list.specs.declared.fault.OptionFault.TheVariants.{NotBuilt}
 use Rattle.word_list.specs.declared.fault.WordsFault.TheVariants.{Bad}
@@ -8,7 +8,7 @@ use Rattle.word_list.specs.Options.{Options}
 use Rattle.word_list.specs.Words as all
 use Rattle.word_list.proofs.LowLemmas.{first_is_low}
 use Rattle.word_list.proofs.SortLemmas.{goes_on}
-use Rattle.ytdl_core.specs.Built.{Command, command_for, command_of, is_built}
+use Rattle.ytdl_core.specs.Built.{Command, command_for, is_built}
 use Rattle.ytdl_core.specs.Words.{Asks, built, words_of}
 
 plan_by : (b : Bool) (o : Options) (info : Option (List ℕ)) (total : ℕ) (c : Command) →

@@ -1,8 +1,8 @@
 -- Information has no more items than bytes.
-use Rattle.std.proofs.Common.{◌≡◌, ℕ, suc, ◌+◌, ◌<◌, ◌≤◌, List, [], ◌∷◌, ◌++◌, length, Bool, true, false, refl, sym, ◌∙◌, ap, arith, length-append, lit≤}
+use Rattle.std.proofs.Common.{◌≡◌, ℕ, suc, ◌+◌, ◌<◌, ◌≤◌, List, [], ◌∷◌, length, Bool, true, false, refl, sym, ◌∙◌, ap, arith, length-append, lit≤}
 use Rattle.std.specs.Prelude.{if◌then◌else◌, Result, Ok, Err}
 use Rattle.info_tree.specs.Tree.{Tree}
-use Rattle.info_tree.specs.Token.{Word, null_word, true_word, false_word, Token, end_list, comma, is_space, after_space, BeginsWith, Splits}
+use Rattle.info_tree.specs.Token.{Word, null_word, true_word, false_word, Token, end_list, is_space, after_space, Splits}
 use Rattle.info_tree.specs.Json.{word_value, IsValue, a_word, a_number, a_string, a_list, a_map, AreItems, no_items, items, AreMoreItems, no_more_items, more_items}
 use Rattle.info_tree.specs.Reading.{IsTextOf}
 use Rattle.info_tree.proofs.OneToken.{shorter}

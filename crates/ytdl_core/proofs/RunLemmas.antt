@@ -2,7 +2,6 @@
 use Rattle.std.proofs.Common.{◌≡◌, ◌⊎◌, ℕ, List, [], take, drop, refl, sym, ◌∙◌, subst, inl, inr}
 use Rattle.std.specs.Prelude.{Option, Some, None, IfSome, Result, Ok, Err}
 use Rattle.job_plan.specs.Plan.{Job, Entry}
-use Rattle.word_list.specs.Options.{PlanOptions}
 use Rattle.ytdl_core.specs.declared.report.Report.{Report}
 use Rattle.ytdl_core.specs.Built.{Command}
 use Rattle.word_list.specs.declared.fault.OptionFault.{OptionFault}
@@ -18,8 +17,8 @@ use Rattle.ytdl_core.specs.Reading.{ComesOfReading}
 use Rattle.ytdl_core.specs.Information.{HaveItems, HaveFault, HaveEntries}
 use Rattle.ytdl_core.specs.Lines.{Sends}
 use Rattle.ytdl_core.specs.Origin.{Origin, of_words, of_source, of_information, of_sink, of_memory, origin_of}
-use Rattle.ytdl_core.specs.Run.{OfFile, OfFaultyFile, ComesBeside, Leaves, IsOfFault, IsOfItems, IsExact, IsOfWords, IsRead, IsReadBy, SendsFront}
-use Rattle.ytdl_core.specs.Steps.{ComesOfSinks, IsExactOf, IsFaultOfBytes, IsSinkFault, IsUntold}
+use Rattle.ytdl_core.specs.Run.{OfFile, OfFaultyFile, ComesBeside, Leaves, IsOfFault, IsOfItems, IsExact, IsOfWords, IsReadBy, SendsFront}
+use Rattle.ytdl_core.specs.Steps.{ComesOfSinks, IsExactOf, IsFaultOfBytes, IsSinkFault}
 use Rattle.ytdl_core.proofs.LimitLemmas.{fault_of_whole, fault_of_read, items_of_read, entries_of_whole}
 
 -- a fault that is not want of memory is that of the words
