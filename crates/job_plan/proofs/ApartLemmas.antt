@@ -1,10 +1,9 @@
 -- The families of two jobs share no name: a draft that meets an earlier job is none.
-use Rattle.std.proofs.Common.{◌≡◌, ◌≢◌, ◌⊎◌, inl, inr, ℕ, zero, suc, ◌<◌, List, [], ◌∷◌, ◌++◌, false, Option, Some, None, map, filter_map, refl, sym, ◌∙◌, ap, subst, arith}
+use Rattle.std.proofs.Common.{◌≡◌, ◌≢◌, ◌⊎◌, inl, inr, ℕ, zero, suc, ◌<◌, List, [], ◌∷◌, ◌++◌, false, Option, Some, None, map, refl, sym, ◌∙◌, ap, subst, arith}
 use Rattle.std.specs.Prelude.{⊤, Result, Ok, Err, IfOk, slice_get, position}
 use Rattle.std.specs.List.{AllByRecursion}
 use Rattle.std.proofs.lemmas.Bool.{both_ways}
-use Rattle.info_item.specs.Item.{Item, Format}
-use Rattle.job_names.specs.Text.{Text}
+use Rattle.info_item.specs.Item.{Item}
 use Rattle.job_plan.specs.Plan.{Plan, Job, Entry}
 use Rattle.job_names.specs.Family.{Names, meets, Meet}
 use Rattle.job_plan.specs.Draft.{Draft, draft_names}
@@ -12,7 +11,7 @@ use Rattle.job_plan.specs.Jobs.{all_entries, behind, behind_one, entry_behind, a
 use Rattle.job_plan.specs.Laws.{FamiliesApart, names_of}
 use Rattle.job_plan.specs.declared.fault.JobFault.{JobFault}
 use Rattle.job_names.proofs.FamilyLemmas.{exact_names_decide}
-use Rattle.job_plan.proofs.WholeLemmas.{IsSound, IsSoundEntry, all_sound, none_passes}
+use Rattle.job_plan.proofs.WholeLemmas.{IsSound, IsSoundEntry, all_sound, none_passes, same_names}
 
 -- the later entry, where it is a draft, does not meet the earlier one
 abbrev pub NotMet : Entry Draft → Entry Draft → Type 0
@@ -57,11 +56,6 @@ all_apart earlier (entry ∷ entries) = (
       (λ d a. (front_of (λ x. is_met_by d x ≡ false) earlier (entry_behind earlier entry) a).1),
   all_apart (earlier ++ entry_behind earlier entry ∷ []) entries,
 )
-
--- the names of a sound draft's job are those of the draft
-same_names : (place : ℕ) (formats : List Format) (d : Draft) → IsSound formats d → names_of (job_of place formats d) ≡ draft_names d
-same_names place formats d sound =
-    ap (λ (components : List Text). record { final_name = d.final_name; components = components; outputs = filter_map (λ step. step.output) d.steps }) sound.named
 
 meet_turned : (a b : Names) → Meet a b → Meet b a
 meet_turned a b m = record { name = m.name; in_first = m.in_second; in_second = m.in_first }

@@ -1,17 +1,19 @@
 -- The steps of a job: their outputs are apart, and the last one leaves the final file.
-use Rattle.std.proofs.Common.{◌≡◌, ℕ, zero, suc, ◌+◌, List, [], ◌∷◌, ◌++◌, true, false, ◌||◌, Option, Some, None, is_some, flat_map, filter_map, refl, sym, ◌∙◌, arith}
-use Rattle.std.specs.Prelude.{All, bytes_eq}
+use Rattle.std.proofs.Common.{◌≡◌, ◌⊎◌, inr, ℕ, zero, suc, ◌+◌, List, [], ◌∷◌, ◌++◌, true, false, ◌||◌, Option, Some, None, is_some, flat_map, filter_map, map, refl, sym, ◌∙◌, arith}
+use Rattle.std.specs.Prelude.{All, bytes_eq, IsTrue}
 use Rattle.std.specs.List.{AllByRecursion, list_any, last_or, cons_option}
 use Rattle.std.specs.Option.{option_map_or}
-use Rattle.std.proofs.lemmas.Bool.{or_parts}
+use Rattle.std.proofs.lemmas.Bool.{or_parts, or_left, or_right}
 use Rattle.std.proofs.lemmas.List.Folds.{list_any-append}
 use Rattle.info_item.specs.Item.{Format}
+use Rattle.tool_chain.specs.Chain.{InputsCome}
 use Rattle.tool_chain.specs.Jobs.{Job as Command, is_output_of, OutputsApart}
 use Rattle.job_names.specs.Text.{Text}
 use Rattle.job_names.specs.Family.{Names, component_names, own_final, exact_names, has_twice}
 use Rattle.job_names.specs.Naming.{output_name}
-use Rattle.job_steps.specs.Steps.{Step, commands}
+use Rattle.job_steps.specs.Steps.{Step, commands, exec_command}
 use Rattle.job_plan.specs.Laws.{last_output}
+use Rattle.job_names.proofs.FamilyLemmas.{text_itself}
 use Rattle.job_names.proofs.MapLemmas.{texts_turned}
 
 -- the outputs of children
@@ -53,6 +55,38 @@ steps_apart tool parts stem k inputs (step ∷ steps) a once =
       all_from_each _ inputs (inputs_apart (commands tool parts stem k inputs (step ∷ steps)) inputs a),
       (output_listed rest name ∙ two.0, steps_apart tool parts stem (k + 1) (name ∷ []) steps (two.0, tt) two.1),
     )
+
+found_behind : (text : Text) (texts names : List Text) → AllByRecursion (λ name. IsTrue (list_any (bytes_eq name) texts)) names →
+    AllByRecursion (λ name. IsTrue (list_any (bytes_eq name) (text ∷ texts))) names
+found_behind text texts [] a = tt
+found_behind text texts (name ∷ names) a = (or_right (bytes_eq name text) (list_any (bytes_eq name) texts) a.0, found_behind text texts names a.1)
+
+-- each of texts is one of them
+texts_found : (texts : List Text) → AllByRecursion (λ name. IsTrue (list_any (bytes_eq name) texts)) texts
+texts_found [] = tt
+texts_found (text ∷ texts) = (or_left (bytes_eq text text) (list_any (bytes_eq text) texts) (text_itself text), found_behind text texts texts (texts_found texts))
+
+inputs_come : (tool : Text) (parts : List Format) (stem : Text) (k : ℕ) (inputs : List Text) (steps : List Step) (There : Text → Type 0) → All There inputs →
+    InputsCome There (commands tool parts stem k inputs steps)
+inputs_come tool parts stem k inputs [] There a = tt
+inputs_come tool parts stem k inputs (step ∷ steps) There a =
+    let name = output_name stem k step.ext in (
+      a,
+      inputs_come tool parts stem (k + 1) (name ∷ []) steps (λ other. There other ⊎ (Some name ≡ Some other))
+          (all_from_each (λ other. There other ⊎ (Some name ≡ Some other)) (name ∷ []) (inr refl, tt)),
+    )
+
+-- the children of steps read what is fetched, and each other's outputs
+pub steps_come : (tool : Text) (parts : List Format) (stem : Text) (k : ℕ) (inputs : List Text) (steps : List Step) →
+    InputsCome (λ name. IsTrue (list_any (bytes_eq name) inputs)) (commands tool parts stem k inputs steps)
+steps_come tool parts stem k inputs steps =
+    inputs_come tool parts stem k inputs steps (λ name. IsTrue (list_any (bytes_eq name) inputs))
+    (all_from_each (λ name. IsTrue (list_any (bytes_eq name) inputs)) inputs (texts_found inputs))
+
+-- the commands for a finished file leave none
+pub execs_silent : (final : Text) (lines : List Text) → AllByRecursion (λ command. command.output ≡ None) (map (exec_command final) lines)
+execs_silent final [] = tt
+execs_silent final (line ∷ lines) = (refl, execs_silent final lines)
 
 -- the last of children has an output
 last_of : (tool : Text) (parts : List Format) (stem : Text) (k : ℕ) (inputs : List Text) (steps : List Step) (job : Command) → is_some job.output ≡ true →

@@ -1,6 +1,6 @@
 -- Every job is whole: it was made of a draft without a fault, whose choice takes formats that can be fetched.
-use Rattle.std.proofs.Common.{◌≡◌, ◌≢◌, ◌⊎◌, inl, inr, ℕ, zero, suc, ◌+◌, List, [], ◌∷◌, ◌++◌, Bool, true, false, not, cond, Option, Some, None, is_some, length, map, codes, refl, sym, ◌∙◌, ap, subst, append_assoc, arith}
-use Rattle.std.specs.Prelude.{Result, Ok, Err, IfOk, IfSome, slice_get, position, option_and_then, if◌then◌else◌}
+use Rattle.std.proofs.Common.{◌≡◌, ◌≢◌, ◌⊎◌, inl, inr, ℕ, zero, suc, ◌+◌, List, [], ◌∷◌, ◌++◌, Bool, true, false, not, cond, Option, Some, None, is_some, length, map, filter_map, codes, refl, sym, ◌∙◌, ap, subst, append_assoc, arith}
+use Rattle.std.specs.Prelude.{Result, Ok, Err, IfOk, IfSome, IsTrue, bytes_eq, slice_get, position, option_and_then, if◌then◌else◌}
 use Rattle.std.specs.List.{AllByRecursion, cons_option, list_any, position_from}
 use Rattle.std.specs.Option.{option_map, option_or, option_map_or}
 use Rattle.std.proofs.lemmas.Bool.{or_parts}
@@ -12,23 +12,24 @@ use Rattle.info_item.specs.View.{parts_of}
 use Rattle.name_text.specs.Clean.{cleaned}
 use Rattle.name_text.specs.Path.{path_fault}
 use Rattle.sel_eval.specs.Answer.{combos, is_large}
+use Rattle.tool_chain.specs.Chain.{InputsCome}
 use Rattle.tool_chain.specs.Jobs.{OutputsApart}
 use Rattle.job_names.specs.Text.{Text}
 use Rattle.job_pieces.specs.Component.{Piece}
 use Rattle.job_plan.specs.Plan.{Plan, Job, Entry}
 use Rattle.job_pieces.specs.Pieces.{pieces_of, urls_by, fragments_of, fragment_urls, fragment_url, base_url, kept_url, is_list_to_fetch, piece_of, can_fetch}
-use Rattle.job_names.specs.Family.{exact_names, has_twice, meets_itself, is_piece_of, is_long, meets_archive}
+use Rattle.job_names.specs.Family.{Names, exact_names, has_twice, meets_itself, is_piece_of, is_long, meets_archive}
 use Rattle.job_names.specs.Naming.{whole_name}
 use Rattle.job_steps.specs.Steps.{Step, steps_of}
 use Rattle.job_plan.specs.Draft.{Draft, Choice, named_of, name_of, name_of_part, fetched_names, draft_with, draft_of_name, draft_of, draft_names, fault_of, clash_of, when, unless_fault, judged, part_without_pieces, with_pieces, drafted, all_filled, told_pairs, name_pairs, chosen_parts}
 use Rattle.job_plan.specs.Jobs.{some_choice, choices_of, outcome_of, entries_of, all_entries, behind, behind_one, entry_behind, all_behind, is_met_by, components_of, job_of, finished_outcome, formats_at, finished, jobs, AreJobs}
-use Rattle.job_plan.specs.Laws.{last_output, IsMade, IsWhole, AreWhole}
+use Rattle.job_plan.specs.Laws.{names_of, last_output, IsMade, IsWhole, AreWhole}
 use Rattle.job_plan.specs.declared.fault.JobFault.{JobFault}
 use Rattle.job_plan.specs.declared.fault.JobFault.TheVariants as faults
 use Rattle.job_plan.specs.declared.fault.ClashWith.TheVariants as with
 use Rattle.job_names.specs.declared.naming.SplitName.{SplitName}
 use Rattle.job_plan.proofs.ChoiceLemmas.{HasPart, combos_have_parts}
-use Rattle.job_plan.proofs.StepLemmas.{all_from_each, steps_apart, last_has, outputs_once, components_apart}
+use Rattle.job_plan.proofs.StepLemmas.{all_from_each, steps_apart, steps_come, execs_silent, last_has, outputs_once, components_apart}
 
 -- the part can be fetched
 abbrev pub CanFetch : Format → Type 0
@@ -105,10 +106,13 @@ parts_fetched formats (k ∷ places) a = by (slice_get formats k) a.0 (parts_fet
 
 -- Of a draft among these formats: what makes its job whole.
 pub record IsSound (formats : List Format) (d : Draft) : Type 0 where
+  pub alone : meets_itself (draft_names d) ≡ false
   pub apart : OutputsApart d.steps
+  pub come : InputsCome (λ name. IsTrue (list_any (bytes_eq name) d.components)) d.steps
   pub made : ((d.steps ≡ []) × (d.components ≡ d.final_name ∷ [])) ⊎ (is_some (last_output d.steps) ≡ true)
   pub named : map (λ component. component.name) (components_of d.components (parts_of formats d.parts)) ≡ d.components
   pub fetched : AllByRecursion CanFetch (parts_of formats d.parts)
+  pub silent : AllByRecursion (λ command. command.output ≡ None) d.execs
 
 names_stay : (f : Format → Text) (parts : List Format) → map (λ component. component.name) (components_of (map f parts) parts) ≡ map f parts
 names_stay f [] = refl
@@ -133,9 +137,9 @@ not_when : {A : Type 0} (b : Bool) (x : A) → when b x ≡ None → b ≡ false
 not_when true x e = absurd (cc)
 not_when false x e = refl
 
--- no exact name of a draft without a fault stands twice
-once : (plan : Plan) (d : Draft) → fault_of plan d ≡ None → has_twice (exact_names (draft_names d)) ≡ false
-once plan d e =
+-- a draft without a fault does not clash with itself
+no_clash : (plan : Plan) (d : Draft) → fault_of plan d ≡ None → meets_itself (draft_names d) ≡ false
+no_clash plan d e =
     let names = draft_names d in
     let clash = option_map (λ found. faults.Clash found) (clash_of plan d) in
     let long = when (is_long names) faults.NameLong in
@@ -144,7 +148,11 @@ once plan d e =
     let behind_final = no_fault final (option_or long clash) behind_name.1 in
     let none = not_mapped (λ found. faults.Clash found) (clash_of plan d) (no_fault long clash behind_final.1).1 in
     let own = no_fault (when (meets_itself names) with.Own) (when (meets_archive names plan.archive) with.Archive) none in
-    (or_parts (has_twice (exact_names names)) (list_any (is_piece_of names.components) (exact_names names)) (not_when (meets_itself names) with.Own own.0)).0
+    not_when (meets_itself names) with.Own own.0
+
+-- so none of its exact names stands twice
+once : (names : Names) → meets_itself names ≡ false → has_twice (exact_names names) ≡ false
+once names alone = (or_parts (has_twice (exact_names names)) (list_any (is_piece_of names.components) (exact_names names)) alone).0
 
 module _ (plan : Plan) (item : Item) (choice : Choice) (part : HasPart item.formats choice) (can : AllByRecursion CanFetch (parts_of item.formats choice.0)) where
   -- a draft of a name is sound, where it has no fault
@@ -154,12 +162,17 @@ module _ (plan : Plan) (item : Item) (choice : Choice) (part : HasPart item.form
   with_sound name steps printed lines e =
       let parts = chosen_parts item choice in
       let d = draft_with plan choice parts (named_of name steps) printed lines in
-      let alone = once plan d e in
+      let alone = no_clash plan d e in
+      let fetched = fetched_names plan.restricted name parts steps in
+      let single = once (draft_names d) alone in
       record {
-        apart = steps_apart plan.tool parts name.stem 1 (fetched_names plan.restricted name parts steps) steps (components_apart (draft_names d) alone) (outputs_once (draft_names d) alone);
+        alone = alone;
+        apart = steps_apart plan.tool parts name.stem 1 fetched steps (components_apart (draft_names d) single) (outputs_once (draft_names d) single);
+        come = steps_come plan.tool parts name.stem 1 fetched steps;
         made = by steps;
         named = fetched_stay plan.restricted name parts steps part.one part.others part.are;
         fetched = can;
+        silent = execs_silent (named_of name steps).final_name lines;
       }
     where
       by : (steps : List Step) → (((draft_with plan choice (chosen_parts item choice) (named_of name steps) printed lines).steps ≡ [])
@@ -289,11 +302,19 @@ behind_sound all earlier (entry ∷ entries) a = (by entry.outcome a.0, behind_s
 pub all_sound : (plan : Plan) (items : List Item) (orders : List (List ℕ)) → AllByRecursion (IsSoundEntry items) (all_behind [] (all_entries plan plan.first_number 0 items orders))
 all_sound plan items orders = behind_sound items [] (all_entries plan plan.first_number 0 items orders) (entries_sound plan plan.first_number [] items orders)
 
+-- the names of a sound draft's job are those of the draft
+pub same_names : (place : ℕ) (formats : List Format) (d : Draft) → IsSound formats d → names_of (job_of place formats d) ≡ draft_names d
+same_names place formats d sound =
+    ap (λ (components : List Text). record { final_name = d.final_name; components = components; outputs = filter_map (λ step. step.output) d.steps }) sound.named
+
 job_whole : (place : ℕ) (formats : List Format) (d : Draft) → IsSound formats d → IsWhole (job_of place formats d)
 job_whole place formats d sound = record {
+  alone = subst (λ (names : Names). meets_itself names ≡ false) (sym (same_names place formats d sound)) sound.alone;
   apart = sound.apart;
+  come = subst (λ (names : List Text). InputsCome (λ name. IsTrue (list_any (bytes_eq name) names)) d.steps) (sym sound.named) sound.come;
   made = by sound.made;
   fetched = all_from_each _ (components_of d.components (parts_of formats d.parts)) (have_pieces d.components (parts_of formats d.parts) sound.fetched);
+  silent = all_from_each _ d.execs sound.silent;
 }
   where
     by : ((d.steps ≡ []) × (d.components ≡ d.final_name ∷ [])) ⊎ (is_some (last_output d.steps) ≡ true) → IsMade (job_of place formats d)

@@ -13,8 +13,8 @@ pub fn families_are_apart(_items: &[Item<'_>], _options: &PlanOptions)
     ensures { (entries : List (Entry Job)) → AreJobs (plain_plan _options.now) _items.now entries → FamiliesApart entries }
 {}
 
-/// Law: a job's steps can run one after another, and the final name is its only component or what its last output is published as. No
-/// component is without a piece.
+/// Law: no name of a job stands for two files. Its steps can run one after another from what is fetched, the final name is its only component or
+/// what its last output is published as, and the commands for the finished file leave none. No component is without a piece.
 pub fn jobs_are_whole(_items: &[Item<'_>], _options: &PlanOptions)
     ensures { (entries : List (Entry Job)) → AreJobs (plain_plan _options.now) _items.now entries → AreWhole entries }
 {}
