@@ -1,0 +1,11 @@
+pub mod ClearLemmas
+pub mod MakeLemmas
+pub mod ApartLemmas
+pub mod StopLemmas
+pub mod BehindLemmas
+pub mod FrameLemmas
+pub mod StepLemmas
+pub mod EndureLemmas
+pub mod FamilyLemmas
+pub mod JobFrameLemmas
+pub mod SparedLemmas
