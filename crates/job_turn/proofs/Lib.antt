@@ -9,3 +9,11 @@ pub mod EndureLemmas
 pub mod FamilyLemmas
 pub mod JobFrameLemmas
 pub mod SparedLemmas
+pub mod SoundLemmas
+pub mod FoldLemmas
+pub mod MadeLemmas
+pub mod JobSoundLemmas
+pub mod GoesSoundLemmas
+pub mod MakingSoundLemmas
+pub mod TurnSoundLemmas
+pub mod GoesTurnLemmas

@@ -6,3 +6,6 @@ pub mod Steps
 pub mod Making
 pub mod Turn
 pub mod Family
+pub mod Sound
+pub mod Standing
+pub mod JobTurned

@@ -1,8 +1,8 @@
 //! A job's turn.
 ghost use Rattle.std.specs.Prelude.{◌≡◌, IsTrue, IfOk, All, map, vec_len};
 ghost use Rattle.folder_base.specs.Story.{IsWhole};
-ghost use Rattle.job_turn.specs.Family.{in_family, Spared};
 ghost use Rattle.job_turn.specs.Job.{HasPieces, IsReady, AreSettings};
+ghost use Rattle.job_turn.specs.JobTurned.{JobTurned};
 ghost use Rattle.job_turn.specs.Making.{IsFit};
 ghost use Rattle.job_turn.specs.Turn.{Stood, Works, Goes};
 
@@ -131,11 +131,8 @@ pub fn turn_job<R: Threads + Sync, F: Folder + Drop + Send, D: Dialer + Send, T:
     requires whole { IsTrue (F.world folder.old).tells → IsWhole (F.world folder.old) }
     requires ready { IsReady job }
     requires settings { AreSettings settings (vec_len dialers.old) }
-    // How it went, call by call: what was asked for each component, which children were run, and what each answer means.
-    ensures goes { Goes D.wire settings job (T.bench tools.old) (T.bench tools.new)
+    ensures turned { JobTurned D.wire settings job (T.bench tools.old) (T.bench tools.new)
         (F.world folder.old) (F.world folder.new) result dialers.old.items dialers.new.items }
-    // At no moment was a name touched beside the job's family.
-    ensures spared { Spared (in_family job) (F.world folder.old) (F.world folder.new) }
     ensures dialers { vec_len dialers.new ≡ vec_len dialers.old }
 {
     go(rt, alloc, folder, dialers, tools, job, settings)
